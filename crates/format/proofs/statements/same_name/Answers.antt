@@ -1,0 +1,8 @@
+use Rattle.std.proofs.shelf.Equals.{matches-decides, sameBytes-decides}
+use Rattle.std.proofs.shelf.Ways.{same-from-decides}
+use Rattle.format.proofs.statements.same_name.Needs as need
+
+pub returns : need.returns
+returns c =
+    rw (c .name-at .ensures, c .name-at-2 .ensures) at
+    (same-from-decides _ _ (matches-decides _ _ _ (c .eq .ensures)) (sameBytes-decides _ _))

@@ -1,0 +1,8 @@
+pub mod Refusals
+pub mod Faults
+pub mod Bytes
+pub mod Header
+pub mod Statements
+pub mod Rules
+pub mod Aggregates
+pub mod Check
