@@ -5,3 +5,7 @@ pub mod Monotone
 pub mod Sound
 pub mod Drawing
 pub mod Letter
+pub mod Families
+pub mod Findings
+pub mod Enumeration
+pub mod SmallTables

@@ -1,0 +1,4 @@
+pub mod Contents
+pub mod Limits
+pub mod View
+pub mod Tables
