@@ -1,1 +1,4 @@
+mod reading;
+mod view;
+
 pub mod table;

@@ -1,0 +1,10 @@
+use Rattle.table.proofs.Places.{lengths-by}
+use Rattle.table.proofs.table.Table.statements.Needs as need
+use mathlib.Core.Bool.{true, false}
+use mathlib.Core.Path.{_∙_, sym}
+
+pub returns-then-self : need.returns-then-self
+returns-then-self c = c .count .ensures ∙ sym (lengths-by _ true (sym (c .args .self .now .accepts) ∙ c .if-self .taken) .names)
+
+pub returns-else-self : need.returns-else-self
+returns-else-self c = sym (lengths-by _ false (sym (c .args .self .now .accepts) ∙ c .if-self .left) .names)

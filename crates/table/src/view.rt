@@ -1,0 +1,123 @@
+use super::reading::read_aggregate;
+use super::reading::read_member;
+use super::reading::read_rule;
+use super::table::AggregateView;
+use super::table::RuleView;
+use super::table::Run;
+use super::table::Table;
+use format::area::Area;
+use format::bytes::byte;
+use format::bytes::part;
+use format::bytes::word;
+use format::check::check;
+use semantics::Member;
+use semantics::Relation;
+ghost use Prim.Native.Nat.{_<_};
+ghost use Rattle.format.specs.Check.{accepted};
+ghost use Rattle.table.specs.Limits.{MemberLimits};
+ghost use Rattle.table.specs.Tables.{contents-of};
+ghost use Rattle.table.specs.View.{Placed, ShowsAggregate, ShowsRule, no-aggregate, no-member, no-rule};
+ghost use lib.ListN.{getD, length};
+ghost use mathlib.Core.List.{[]};
+ghost use mathlib.Core.Path.{_≡_};
+
+const NO_RUN: Run = Run { first: 0, end: 0 };
+const NO_RULE: RuleView = RuleView { head: NO_RUN, positive: NO_RUN, negative: NO_RUN, aggregates: NO_RUN };
+const NO_AGGREGATE: AggregateView = AggregateView { kind: 0, relation: Relation::Less, bound: 0, members: NO_RUN };
+const NO_MEMBER: Member = Member { statement: 0, weight: 0 };
+
+// Reading. What a table lacks, and all that an unopened one would have, reads as empty.
+impl<'a> Table<'a> {
+    // Opens the bytes where the check accepts them.
+    pub fn open(bytes: &'a [u8]) -> Table<'a>
+        ensures { λ r. ⌜ now (r .bytes) ≡ now (bytes .entry) ⌝ ∗ ⌜ r .opened ≡ accepted (now (bytes .entry)) ⌝ }
+    {
+        Table { bytes, opened: check(bytes).is_ok() }
+    }
+
+    // Whether the check accepted the bytes.
+    pub fn is_opened(&self) -> bool
+        ensures { λ r. ⌜ r ≡ accepted (now (now (self .entry) .bytes)) ⌝ }
+    {
+        self.opened
+    }
+
+    // The place of record i of an area, where there is one.
+    fn place(&self, area: Area, i: usize) -> Option<u32>
+        ensures { λ r. ⌜ Placed (now (now (self .entry) .bytes)) area i r ⌝ }
+    {
+        if !self.opened || i >= area.count(self.bytes) as usize {
+            return None;
+        }
+        Some((area.offset(self.bytes) as usize + area.size() * i) as u32)
+    }
+
+    // How many statements there are.
+    pub fn statements(&self) -> u16
+        ensures { λ r. ⌜ r ≡ length (contents-of (now (self .entry)) .names) ⌝ }
+    {
+        if self.opened { Area::Statements.count(self.bytes) } else { 0 }
+    }
+
+    // How many rules there are.
+    pub fn rules(&self) -> usize
+        ensures { λ r. ⌜ r ≡ length (contents-of (now (self .entry)) .rules) ⌝ }
+    {
+        if self.opened { Area::Rules.count(self.bytes) as usize } else { 0 }
+    }
+
+    // Rule i; past the last one, a rule with nothing in it.
+    pub fn rule(&self, i: usize) -> RuleView
+        ensures { λ r. ⌜ ShowsRule (contents-of (now (self .entry))) (getD (contents-of (now (self .entry)) .rules) i no-rule) r ⌝ }
+    {
+        match self.place(Area::Rules, i) {
+            Some(at) => read_rule(self.bytes, at),
+            None => NO_RULE,
+        }
+    }
+
+    // The statement at place k of the literals; past the last one, 0.
+    pub fn literal(&self, k: usize) -> u16
+        ensures value { λ r. ⌜ r ≡ getD (contents-of (now (self .entry)) .literals) k 0 ⌝ }
+        ensures known { λ r. ⌜ (k < length (contents-of (now (self .entry)) .literals) → r < length (contents-of (now (self .entry)) .names)) ⌝ }
+    {
+        match self.place(Area::Literals, k) {
+            Some(at) => byte(self.bytes, at as usize) as u16,
+            None => 0,
+        }
+    }
+
+    // Aggregate j; past the last one, one with nothing in it.
+    pub fn aggregate(&self, j: usize) -> AggregateView
+        ensures { λ r. ⌜ ShowsAggregate (contents-of (now (self .entry))) (getD (contents-of (now (self .entry)) .aggregates) j no-aggregate) r ⌝ }
+    {
+        match self.place(Area::Aggregates, j) {
+            Some(at) => read_aggregate(self.bytes, at),
+            None => NO_AGGREGATE,
+        }
+    }
+
+    // The member at place k of the members; past the last one, statement 0 with weight 0.
+    pub fn member(&self, k: usize) -> Member
+        ensures value { λ r. ⌜ r ≡ getD (contents-of (now (self .entry)) .members) k no-member ⌝ }
+        ensures limits { λ r. ⌜ (k < length (contents-of (now (self .entry)) .members) → MemberLimits (length (contents-of (now (self .entry)) .names)) r) ⌝ }
+    {
+        match self.place(Area::Members, k) {
+            Some(at) => read_member(self.bytes, at),
+            None => NO_MEMBER,
+        }
+    }
+
+    // The name of a statement; past the last one, no bytes.
+    pub fn name(&self, statement: u16) -> &'a [u8]
+        ensures { λ r. ⌜ now r ≡ getD (contents-of (now (self .entry)) .names) statement [] ⌝ }
+    {
+        match self.place(Area::Statements, statement as usize) {
+            Some(at) => {
+                let start = Area::Names.offset(self.bytes) as usize + word(self.bytes, at as usize) as usize;
+                part(self.bytes, start, byte(self.bytes, at as usize + 2) as usize)
+            }
+            None => &self.bytes[0..0],
+        }
+    }
+}
