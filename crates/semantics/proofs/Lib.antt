@@ -9,3 +9,5 @@ pub mod Families
 pub mod Findings
 pub mod Enumeration
 pub mod SmallTables
+pub mod Order
+pub mod Decisions

@@ -93,7 +93,7 @@ small-tables = record {
   nothing-clashes = broken-clashes house (table-2 .rules) [] nothing-broken;
   own-count = sole-by-trial refl refl refl;
   own-count-in = none-by-trial refl;
-  own-count-settles = (a-in, record { reached = here; settled = own-count-settled });
+  own-count-settles = record { reached = here; settled = own-count-settled };
   own-lack = none-by-trial refl;
   own-member = none-by-trial refl;
   other-member = earliest-by-trial refl refl refl;

@@ -5,7 +5,7 @@ use mathlib.Core.Bool.{Bool, true, false}
 use Prim.Native.Nat.{ℕ}
 use lib.IntN.{ℤ, pos, negsuc}
 use Rattle.semantics.specs.declared.Finding.{Finding}
-use Rattle.semantics.specs.declared.Mark.{Mark}
+use Rattle.semantics.specs.declared.Mark.the-variants.{In}
 use Rattle.semantics.specs.declared.Member.{Member}
 use Rattle.semantics.specs.declared.Relation.{Relation}
 use Rattle.semantics.specs.declared.Relation.the-variants.{AtMost, Equal, More}
@@ -124,7 +124,7 @@ pub record SmallTables : Type 0 where
   pub nothing-clashes : Clash house (table-2 .rules) (noted table-2 [])
   pub own-count : Sole house table-3 [] (false ∷ [])
   pub own-count-in : NoAccount house table-3 (is-in a ∷ [])
-  pub own-count-settles : (m : List Mark) × Drawn house (table-3 .rules) (noted table-3 (is-in a ∷ [])) m
+  pub own-count-settles : Drawn house (table-3 .rules) (noted table-3 (is-in a ∷ [])) (In ∷ [])
   pub own-lack : NoAccount house table-4 []
   pub own-member : NoAccount house table-5 []
   pub other-member : Earliest house table-6 [] (true ∷ true ∷ [])

@@ -1,0 +1,62 @@
+use super::Finding;
+ghost use Prim.Native.Nat.{ℕ, _<_};
+ghost use Rattle.semantics.specs.AnswerSets.{AgreesWith};
+ghost use Rattle.semantics.specs.Rows.{Precedes, ProperPart, has};
+ghost use Rattle.semantics.specs.Theorems.{Antichain, NotedAgrees, Order, Supported};
+ghost use Rattle.std.specs.Orderings.{Decides};
+ghost use mathlib.Core.Bool.{true};
+ghost use mathlib.Core.Path.{_≡_};
+
+// Sets of statements as rows of marks: place q is true where statement q is in the set.
+
+// Whether a row has a statement; past its end it has none. A statement of an answer set has a supporting rule.
+pub fn has(row: &[bool], statement: usize) -> bool
+    ensures value { λ r. ⌜ r ≡ has (now (row .entry)) statement ⌝ }
+    ensures supported { λ r. ⌜ (r ≡ true → Supported (now (row .entry)) statement) ⌝ }
+{
+    if statement < row.len() { row[statement] } else { false }
+}
+
+// Whether a row comes before another: at the first difference it has the statement. The order is strict and total.
+pub fn precedes(row: &[bool], other: &[bool]) -> bool
+    ensures decided { λ r. ⌜ Decides r (Precedes (now (row .entry)) (now (other .entry))) ⌝ }
+    ensures order { λ _. ⌜ Order ⌝ }
+{
+    for (q, x) in row.iter().enumerate() {
+        if *x != has(other, q) {
+            return *x;
+        }
+    }
+    false
+}
+
+// Whether a set is a proper part of another. No answer set of a program is a proper part of another one.
+pub fn is_proper_part(part: &[bool], whole: &[bool]) -> bool
+    ensures decided { λ r. ⌜ Decides r (ProperPart (now (part .entry)) (now (whole .entry))) ⌝ }
+    ensures antichain { λ _. ⌜ Antichain (now (part .entry)) (now (whole .entry)) ⌝ }
+{
+    if part.len() != whole.len() {
+        return false;
+    }
+    let mut smaller = false;
+    for (q, x) in part.iter().enumerate() {
+        if *x && !whole[q] {
+            return false;
+        }
+        smaller = smaller || *x != whole[q];
+    }
+    smaller
+}
+
+// Whether a row agrees with findings: it has what was found present, and lacks what was found absent.
+pub fn agrees_with(findings: &[Finding], row: &[bool]) -> bool
+    ensures decided { λ r. ⌜ Decides r (AgreesWith (now (findings .entry)) (now (row .entry))) ⌝ }
+    ensures noted { λ _. ⌜ NotedAgrees ⌝ }
+{
+    for finding in findings {
+        if has(row, finding.statement as usize) != finding.present {
+            return false;
+        }
+    }
+    true
+}
