@@ -1,24 +1,23 @@
 -- What is known of bytes that have no fault, record by record.
-use Prim.Native.Nat.{ℕ, zero, suc, _+_, _*_, _<_, _≤_}
+use Prim.Native.Nat.{ℕ, _<_, _≤_}
 use Rattle.format.proofs.Verdicts.{each-clean, parts}
-use Rattle.format.specs.Aggregates.{aggregate-at, aggregate-faults, all-aggregate-faults, all-member-faults, first-member, member-at, member-count, member-faults, members-end, same-member-faults, set-faults, weight-fits}
+use Rattle.format.specs.Aggregates.{aggregate-faults, all-aggregate-faults, first-member, member-count, member-faults, members-end}
 use Rattle.format.specs.Bytes.{word-at}
 use Rattle.format.specs.Check.{accepted, faults, none}
 use Rattle.format.specs.Faults.{each, unless, when}
 use Rattle.format.specs.Header.{area-end, count, count-faults, end-before, every-area, header-faults, most, offset, offset-faults}
-use Rattle.format.specs.Rules.{aggregate-count, aggregates-end, all-literal-faults, all-rule-faults, first-aggregate, first-literal, head-count, literal-count, literal-faults, literals-end, negative-count, positive-count, rule-at, rule-faults}
-use Rattle.format.specs.Statements.{all-statement-faults, name-byte-faults, name-length, name-start, name-twice-faults, names-end, same-name-faults, statement-at, statement-faults}
+use Rattle.format.specs.Rules.{aggregates-end, all-literal-faults, all-rule-faults, first-aggregate, first-literal, literal-faults, literals-end, rule-faults}
+use Rattle.format.specs.Statements.{all-statement-faults, name-byte-faults, name-start, names-end, same-name-faults, statement-faults}
 use Rattle.format.specs.declared.area.Area.{Area}
 use Rattle.format.specs.declared.area.Area.the-variants.{Statements, Rules, Literals, Aggregates, Members, Names}
 use Rattle.format.specs.declared.fault.Fault.{Fault}
 use Rattle.format.specs.declared.fault.Refusal.{Refusal}
 use Rattle.format.specs.declared.fault.Refusal.the-variants.{TooShort, WrongFormat, WrongLength, NamesNotLast, NamesUnfilled, RulesUnfilled}
-use Rattle.std.proofs.shelf.Tests.{cases-lt, eqb-true, leb-true}
+use Rattle.std.proofs.shelf.Tests.{eqb-true, leb-true}
 use lib.Dec.{eqb, leb}
 use lib.ListN.{length}
 use mathlib.Core.Bool.{Bool, true, false}
-use mathlib.Core.List.{List, [], _∷_, _++_}
-use mathlib.Core.Logic.{inl, inr}
+use mathlib.Core.List.{List, [], _∷_}
 use mathlib.Core.Path.{_≡_, refl}
 use native.Mathlib.Omega.{arith}
 
@@ -115,14 +114,6 @@ module _ (b : List ℕ) (c : Clean b) where
   pub areas-end : area-end b Names ≡ length b
   areas-end = eqb-true _ _ (holds _ _ _ (of-header .5))
 
--- runs that follow each other lie before the end of the last
-pub run-inside : (end start len : ℕ → ℕ) → ((i : ℕ) → end (suc i) ≡ start i + len i) → (n : ℕ) → ((i : ℕ) → i < n → start i ≡ end i) → (i : ℕ) → i < n → start i + len i ≤ end n
-run-inside end start len next zero joined i l = absurd (omega arith)
-run-inside end start len next (suc n) joined i l =
-    elim (cases-lt i n)
-    [ inl h ↦ omega (arith, run-inside end start len next n (λ k m. joined k (omega arith)) i h, next n, joined n (omega arith))
-    | inr h ↦ let q : i ≡ n = omega arith in rw q (omega (arith, next n)) ]
-
 name-follows : (b : List ℕ) (i : ℕ) → statement-faults b i ≡ [] → name-start b i ≡ names-end b i
 name-follows b i e = grind (arith, holds, parts)
 
@@ -147,15 +138,3 @@ module _ (b : List ℕ) (c : Clean b) where
 
   pub member-joined : (j : ℕ) → j < count b Aggregates → first-member b j ≡ members-end b j
   member-joined j l = members-follow b j (c .aggregate j l)
-
-  pub name-inside : (i : ℕ) → i < count b Statements → name-start b i + name-length b i ≤ count b Names
-  name-inside i l = omega (arith, c .names-filled, run-inside (names-end b) (name-start b) (name-length b) (λ _. refl) (count b Statements) name-joined i l)
-
-  pub literals-inside : (i : ℕ) → i < count b Rules → first-literal b i + literal-count b i ≤ count b Literals
-  literals-inside i l = omega (arith, c .literals-filled, run-inside (literals-end b) (first-literal b) (literal-count b) (λ _. refl) (count b Rules) literal-joined i l)
-
-  pub aggregates-inside : (i : ℕ) → i < count b Rules → first-aggregate b i + aggregate-count b i ≤ count b Aggregates
-  aggregates-inside i l = omega (arith, c .aggregates-filled, run-inside (aggregates-end b) (first-aggregate b) (aggregate-count b) (λ _. refl) (count b Rules) aggregate-joined i l)
-
-  pub members-inside : (j : ℕ) → j < count b Aggregates → first-member b j + member-count b j ≤ count b Members
-  members-inside j l = omega (arith, c .members-filled, run-inside (members-end b) (first-member b) (member-count b) (λ _. refl) (count b Aggregates) member-joined j l)

@@ -1,2 +1,10 @@
+pub mod Slices
+pub mod Runs
 pub mod Clean
+pub mod Records
+pub mod Held
+pub mod Numbers
+pub mod Limits
+pub mod Alike
+pub mod Determined
 pub mod Places

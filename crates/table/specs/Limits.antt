@@ -1,5 +1,5 @@
 -- What the format allows, said of what the bytes stand for.
-use Prim.Native.Nat.{ℕ, _+_, _<_, _≤_, _^_}
+use Prim.Native.Nat.{ℕ, _+_, _<_, _≤_}
 use Rattle.format.specs.Check.{accepted}
 use Rattle.semantics.specs.Lists.{Among}
 use Rattle.semantics.specs.Programs.{Aggregate, Rule}

@@ -14,10 +14,11 @@ use semantics::Member;
 use semantics::Relation;
 ghost use Prim.Native.Nat.{_<_};
 ghost use Rattle.format.specs.Check.{accepted};
-ghost use Rattle.table.specs.Limits.{MemberLimits};
+ghost use Rattle.table.specs.Limits.{MemberLimits, OnlyBytes, WithinLimits};
 ghost use Rattle.table.specs.Tables.{contents-of};
 ghost use Rattle.table.specs.View.{Placed, ShowsAggregate, ShowsRule, no-aggregate, no-member, no-rule};
 ghost use lib.ListN.{getD, length};
+ghost use mathlib.Core.Bool.{true};
 ghost use mathlib.Core.List.{[]};
 ghost use mathlib.Core.Path.{_≡_};
 
@@ -28,9 +29,13 @@ const NO_MEMBER: Member = Member { statement: 0, weight: 0 };
 
 // Reading. What a table lacks, and all that an unopened one would have, reads as empty.
 impl<'a> Table<'a> {
-    // Opens the bytes where the check accepts them.
+    // Opens the bytes where the check accepts them. What an opened table stands for is within the limits of the
+    // format, and no other bytes stand for the same rules and names.
     pub fn open(bytes: &'a [u8]) -> Table<'a>
-        ensures { λ r. ⌜ now (r .bytes) ≡ now (bytes .entry) ⌝ ∗ ⌜ r .opened ≡ accepted (now (bytes .entry)) ⌝ }
+        ensures bytes { λ r. ⌜ now (r .bytes) ≡ now (bytes .entry) ⌝ }
+        ensures opened { λ r. ⌜ r .opened ≡ accepted (now (bytes .entry)) ⌝ }
+        ensures limits { λ r. ⌜ (r .opened ≡ true → WithinLimits (contents-of r)) ⌝ }
+        ensures only { λ r. ⌜ OnlyBytes (now (r .bytes)) ⌝ }
     {
         Table { bytes, opened: check(bytes).is_ok() }
     }

@@ -1,5 +1,5 @@
 use Rattle.std.proofs.shelf.Lists.{getD-past}
-use Rattle.table.proofs.Places.{literal-is-known, literal-there, past-literals}
+use Rattle.table.proofs.Places.{literal-known, literal-there, past-literals}
 use Rattle.table.proofs.table.Table.literal.Needs as need
 use mathlib.Core.Path.{_∙_, sym}
 use native.Mathlib.Omega.{arith}
@@ -7,7 +7,7 @@ use native.Mathlib.Omega.{arith}
 pub returns-in-Some : need.returns-in-Some
 returns-in-Some c =
     let p = c .in-Some .ensures tt in
-    let known = literal-is-known _ (p .0) (c .args .k) (c .in-Some .at) (p .1) (p .2) in
+    let known = literal-known _ (p .0) (c .args .k) (c .in-Some .at) (p .1) (p .2) in
     record { value = c .byte .ensures ∙ literal-there _ (p .0) (c .args .k) (c .in-Some .at) (p .1) (p .2); known = λ _. rw (c .byte .ensures) known }
 
 pub returns-in-None : need.returns-in-None
