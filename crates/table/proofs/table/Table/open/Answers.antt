@@ -9,9 +9,11 @@ use Rattle.table.proofs.Determined.{only-bytes}
 use Rattle.table.proofs.Limits.{within-limits}
 use Rattle.table.proofs.Places.{ok-accepted}
 use Rattle.table.proofs.table.Table.open.Needs as need
+use Rattle.table.specs.Limits.{Bytes}
 use mathlib.Core.Bool.{Bool}
 use mathlib.Core.List.{List}
 use mathlib.Core.Path.{_≡_, _∙_, ap, refl, sym}
+use native.Mathlib.Omega.{arith}
 
 opens : (b : List ℕ) (r : Result Counts Fault) (t : Bool) → t ≡ isOk r → r ≡ verdict (faults b) (counts-of b) → t ≡ accepted b
 opens b r t e f = e ∙ (ap isOk f ∙ ok-accepted b)
@@ -22,9 +24,10 @@ ghost-result c = (opens (c .args .bytes .now) _ _ (c .is-ok .ensures .value) (c 
 pub returns : need.returns
 returns c =
     let opened = opens (c .args .bytes .now) _ _ (c .is-ok .ensures .value) (c .check .ensures) in
+    let are-bytes : Bytes (c .args .bytes .now) = λ k. let fits = c .typed .bytes k in omega arith in
     record {
       bytes = refl;
       opened = opened;
-      limits = λ h. within-limits (c .args .bytes .now) (c .typed .bytes) (sym opened ∙ h);
-      only = only-bytes (c .args .bytes .now) (c .typed .bytes);
+      limits = λ h. within-limits (c .args .bytes .now) are-bytes (sym opened ∙ h);
+      only = only-bytes (c .args .bytes .now) are-bytes;
     }
