@@ -14,7 +14,7 @@ use Rattle.semantics.specs.declared.Member.{Member}
 use Rattle.semantics.specs.AnswerSets.{weights}
 use Rattle.semantics.specs.Families.{Values}
 use Rattle.semantics.specs.Lists.{Among, Nth}
-use Rattle.semantics.specs.Markings.{at, marked, Allows, Below, Bag, Reached, Between, Certain, Impossible, BodyCertain, Refuted, HeadOut, Broken, OneLeft, OthersOut, CertainButFor, Forces, fires, explains, chooses, blocks, unsupported, Settled}
+use Rattle.semantics.specs.Markings.{at, marked, Allows, Below, Bag, Attained, Between, Certain, Impossible, BodyCertain, Refuted, HeadOut, Broken, OneLeft, OthersOut, CertainButFor, Forces, fires, explains, chooses, blocks, unsupported, Settled}
 use Rattle.semantics.specs.Programs.{Aggregate, Rule}
 use Rattle.semantics.proofs.Lists.{among-nth, nth-same}
 use Rattle.semantics.proofs.Marks.{is-in, allows-in, both-marked, cases-mark, marked-inside}
@@ -29,16 +29,16 @@ module _ (value : Values) (m n : List Mark) (b : Below m n) where
   bag-below [] v e = e
   bag-below (a ∷ ms) v (x, u, al, bag, e) = (x, u, (λ y h. al y (b (a .statement) y h)), bag-below ms u bag, e)
 
-  reached-below : (g : Aggregate) (r : Option ℤ) → Reached value n g r → Reached value m g r
-  reached-below g r c = (c .0, bag-below (g .members) (c .0) (c .1), c .2)
+  attained-below : (g : Aggregate) (r : Option ℤ) → Attained value n g r → Attained value m g r
+  attained-below g r c = (c .0, bag-below (g .members) (c .0) (c .1), c .2)
 
   between-below : (g : Aggregate) (z : ℤ) → Between value n g z → Between value m g z
-  between-below g z c = (c .0, c .1, reached-below g _ (c .2), reached-below g _ (c .3), c .4, c .5)
+  between-below g z c = (c .0, c .1, attained-below g _ (c .2), attained-below g _ (c .3), c .4, c .5)
 
   pub certain-stays : (g : Aggregate) → Certain value m g → Certain value n g
   certain-stays g c = record {
     number = some (value (g .kind) ws) refl;
-    always = λ d. c .always (reached-below g None d);
+    always = λ d. c .always (attained-below g None d);
     within = λ z d. c .within z (between-below g z d);
   }
     where
@@ -48,8 +48,8 @@ module _ (value : Values) (m n : List Mark) (b : Below m n) where
       bag : Bag n (g .members) ws
       bag = bag-of-row n (λ q. is-in (at n q)) (λ q. allows-in (at n q)) (g .members)
 
-      some : (o : Option ℤ) → value (g .kind) ws ≡ o → (z : ℤ) × Reached value n g (Some z)
-      some None e = absurd (c .always (reached-below g None (ws, bag, e)))
+      some : (o : Option ℤ) → value (g .kind) ws ≡ o → (z : ℤ) × Attained value n g (Some z)
+      some None e = absurd (c .always (attained-below g None (ws, bag, e)))
       some (Some z) e = (z, (ws, bag, e))
 
   pub impossible-stays : (g : Aggregate) → Impossible value m g → Impossible value n g

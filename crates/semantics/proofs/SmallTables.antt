@@ -14,7 +14,7 @@ use Rattle.semantics.specs.declared.Mark.the-variants.{Open, In}
 use Rattle.semantics.specs.declared.Relation.the-variants.{Equal}
 use Rattle.semantics.specs.Families.{Values, house}
 use Rattle.semantics.specs.Lists.{Among}
-use Rattle.semantics.specs.Markings.{at, marked, literals, Reached, Impossible, Refuted, HeadOut, Broken, Forces, fires, explains, chooses, blocks, unsupported, here, Settled, Clash}
+use Rattle.semantics.specs.Markings.{at, marked, literals, Attained, Impossible, Refuted, HeadOut, Broken, Forces, fires, explains, chooses, blocks, unsupported, here, Settled, Clash}
 use Rattle.semantics.specs.Programs.{Aggregate, Rule}
 use Rattle.semantics.specs.SmallTables.{a, b, count, rule, over, _weighs_, table-2, table-3, SmallTables}
 use Rattle.semantics.proofs.Drawing.{reached-adds}
@@ -60,7 +60,7 @@ none-open (suc q) l e = absurd (omega arith)
 own-count-possible : Impossible house a-in own-aggregate → ⊥
 own-count-possible h = true≢false (h (pos 1) (pos 1, pos 1, one, one, ≤ℤ-refl (pos 1), ≤ℤ-refl (pos 1)))
   where
-    one : Reached house a-in own-aggregate (Some (pos 1))
+    one : Attained house a-in own-aggregate (Some (pos 1))
     one = (pos 1 ∷ [], (true, [], (λ x. marked-once true x refl), refl, refl), refl)
 
 own-rule-stands : Refuted house a-in own-rule → ⊥

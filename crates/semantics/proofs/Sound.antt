@@ -14,7 +14,7 @@ use Rattle.semantics.specs.declared.Mark.the-variants.{Open, In, Out}
 use Rattle.semantics.specs.AnswerSets.{weights, passes, true-in, obeys-rule, AnswerSet, Supports}
 use Rattle.semantics.specs.Families.{Values}
 use Rattle.semantics.specs.Lists.{Among, Nth, all}
-use Rattle.semantics.specs.Markings.{at, marked, Agrees, Reached, Between, Certain, Impossible, literals, BodyCertain, Refuted, HeadOut, Broken, OneLeft, Forces, fires, explains, chooses, blocks, unsupported}
+use Rattle.semantics.specs.Markings.{at, marked, Agrees, Attained, Between, Certain, Impossible, literals, BodyCertain, Refuted, HeadOut, Broken, OneLeft, Forces, fires, explains, chooses, blocks, unsupported}
 use Rattle.semantics.specs.Programs.{Aggregate, Rule, Program}
 use Rattle.semantics.specs.Rows.{has}
 use Rattle.semantics.proofs.AnswerSets.{head-of-obeyed, needs-of-itself, supported}
@@ -47,17 +47,17 @@ head-of-holding value p s r a i h =
 module _ (value : Values) (m : List Mark) (s : List Bool) (ag : Agrees m s) where
   -- the value of an aggregate in s is one that the marking reaches
   module _ (g : Aggregate) where
-    reached-in-row : (r : Option ℤ) → value (g .kind) (weights (has s) (g .members)) ≡ r → Reached value m g r
-    reached-in-row r e = (weights (has s) (g .members), bag-of-row m (has s) ag (g .members), e)
+    attained-in-row : (r : Option ℤ) → value (g .kind) (weights (has s) (g .members)) ≡ r → Attained value m g r
+    attained-in-row r e = (weights (has s) (g .members), bag-of-row m (has s) ag (g .members), e)
 
     between-in-row : (z : ℤ) → value (g .kind) (weights (has s) (g .members)) ≡ Some z → Between value m g z
-    between-in-row z e = (z, z, reached-in-row (Some z) e, reached-in-row (Some z) e, ≤ℤ-refl z, ≤ℤ-refl z)
+    between-in-row z e = (z, z, attained-in-row (Some z) e, attained-in-row (Some z) e, ≤ℤ-refl z, ≤ℤ-refl z)
 
   pub certain-true : (g : Aggregate) → Certain value m g → true-in value s g ≡ true
   certain-true g c = go _ refl
     where
       go : (o : Option ℤ) → value (g .kind) (weights (has s) (g .members)) ≡ o → true-in value s g ≡ true
-      go None e = absurd (c .always (reached-in-row g None e))
+      go None e = absurd (c .always (attained-in-row g None e))
       go (Some z) e = ap (passes (g .relation) (g .bound)) e ∙ c .within z (between-in-row g z e)
 
   pub impossible-false : (g : Aggregate) → Impossible value m g → true-in value s g ≡ false

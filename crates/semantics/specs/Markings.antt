@@ -46,21 +46,21 @@ abbrev pub Bag : List Mark → List Member → List ℤ → Type 0
 Bag m [] v = v ≡ []
 Bag m (a ∷ ms) v = (b : Bool) × (u : List ℤ) × Allows (at m (a .statement)) b × Bag m ms u × (v ≡ cond b (a .weight ∷ u) u)
 
--- the aggregate reaches this value: some bag under the marking has it
-abbrev pub Reached : Values → List Mark → Aggregate → Option ℤ → Type 0
-Reached value m g r = (v : List ℤ) × Bag m (g .members) v × (value (g .kind) v ≡ r)
+-- the aggregate can come to this value: some bag under the marking has it
+abbrev pub Attained : Values → List Mark → Aggregate → Option ℤ → Type 0
+Attained value m g r = (v : List ℤ) × Bag m (g .members) v × (value (g .kind) v ≡ r)
 
--- z lies between two numbers that are reached, and so between the least and the greatest
+-- z lies between two numbers that it can come to, and so from the least to the greatest of them
 abbrev pub Between : Values → List Mark → Aggregate → ℤ → Type 0
-Between value m g z = (l h : ℤ) × Reached value m g (Some l) × Reached value m g (Some h) × (l ≤ℤ z) × (z ≤ℤ h)
+Between value m g z = (l h : ℤ) × Attained value m g (Some l) × Attained value m g (Some h) × (l ≤ℤ z) × (z ≤ℤ h)
 
--- a number is reached, nothing is not, and every whole number from the least to the greatest stands in the relation
+-- it can come to a number, it cannot come to nothing, and every whole number from the least to the greatest stands in the relation
 pub record Certain (value : Values) (m : List Mark) (g : Aggregate) : Type 0 where
-  pub number : (z : ℤ) × Reached value m g (Some z)
-  pub always : Reached value m g None → ⊥
+  pub number : (z : ℤ) × Attained value m g (Some z)
+  pub always : Attained value m g None → ⊥
   pub within : (z : ℤ) → Between value m g z → stands (g .relation) z (g .bound) ≡ true
 
--- no whole number from the least to the greatest stands in the relation; so too where no number is reached
+-- no whole number from the least to the greatest stands in the relation; so too where it can come to no number
 abbrev pub Impossible : Values → List Mark → Aggregate → Type 0
 Impossible value m g = (z : ℤ) → Between value m g z → stands (g .relation) z (g .bound) ≡ false
 
