@@ -7,7 +7,7 @@ use Rattle.std.specs.Results.{ErrBy}
 use Rattle.std.specs.declared.result.Result.{Result}
 use Rattle.std.specs.declared.result.Result.the-variants.{Ok, Err}
 use Rattle.format.specs.Faults.{each, verdict}
-use Rattle.format.specs.declared.fault.Fault.{Fault}
+use Rattle.refusal.specs.declared.Fault.{Fault}
 use mathlib.Core.List.{List, [], _∷_, _++_}
 use mathlib.Core.Logic.{inl, inr}
 use mathlib.Core.Path.{_≡_, refl, ap, sym, _∙_}

@@ -1,11 +1,11 @@
 -- Aggregates and the members of their sets.
 use Prim.Native.Nat.{ℕ, zero, suc, _+_, _*_}
-use Rattle.format.specs.Bytes.{byte-at, word-at, whole-at}
+use Rattle.layout.specs.Bytes.{byte-at, word-at, whole-at}
 use Rattle.format.specs.Faults.{when, unless, each}
-use Rattle.format.specs.Header.{count, offset}
-use Rattle.format.specs.declared.area.Area.the-variants.{Statements, Aggregates, Members}
-use Rattle.format.specs.declared.fault.Fault.{Fault}
-use Rattle.format.specs.declared.fault.Refusal.the-variants.{UnknownRelation, WrongMemberRun, AggregatePadding, MembersUnfilled, UnknownMember, MemberPadding, WeightTooLarge, MemberTwice}
+use Rattle.layout.specs.Areas.{count, offset}
+use Rattle.layout.specs.declared.area.Area.the-variants.{Statements, Aggregates, Members}
+use Rattle.refusal.specs.declared.Fault.{Fault}
+use Rattle.refusal.specs.declared.Refusal.the-variants.{UnknownRelation, WrongMemberRun, AggregatePadding, MembersUnfilled, UnknownMember, MemberPadding, WeightTooLarge, MemberTwice}
 use lib.Dec.{eqb, leb, ltb}
 use lib.IntN.{ℤ, pos, negsuc}
 use lib.Signed.{leZ}

@@ -1,12 +1,13 @@
 -- What the check says of any bytes.
 use Prim.Native.Nat.{ℕ}
 use Rattle.format.specs.Aggregates.{all-aggregate-faults, all-member-faults}
-use Rattle.format.specs.Header.{header-faults, count}
+use Rattle.format.specs.Header.{header-faults}
+use Rattle.layout.specs.Areas.{count}
 use Rattle.format.specs.Rules.{all-rule-faults, all-literal-faults}
 use Rattle.format.specs.Statements.{all-statement-faults}
-use Rattle.format.specs.declared.area.Area.the-variants.{Statements, Rules, Literals, Aggregates, Members, Names}
+use Rattle.layout.specs.declared.area.Area.the-variants.{Statements, Rules, Literals, Aggregates, Members, Names}
 use Rattle.format.specs.declared.check.Counts.{Counts}
-use Rattle.format.specs.declared.fault.Fault.{Fault}
+use Rattle.refusal.specs.declared.Fault.{Fault}
 use mathlib.Core.Bool.{Bool, true, false}
 use mathlib.Core.List.{List, [], _∷_, _++_}
 

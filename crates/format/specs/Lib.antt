@@ -1,6 +1,4 @@
-pub mod Refusals
 pub mod Faults
-pub mod Bytes
 pub mod Header
 pub mod Statements
 pub mod Rules

@@ -1,11 +1,11 @@
 -- Rules and their literals.
 use Prim.Native.Nat.{ℕ, zero, suc, _+_, _*_}
-use Rattle.format.specs.Bytes.{byte-at, word-at}
+use Rattle.layout.specs.Bytes.{byte-at, word-at}
 use Rattle.format.specs.Faults.{unless, each}
-use Rattle.format.specs.Header.{count, offset}
-use Rattle.format.specs.declared.area.Area.the-variants.{Statements, Rules, Literals, Aggregates}
-use Rattle.format.specs.declared.fault.Fault.{Fault}
-use Rattle.format.specs.declared.fault.Refusal.the-variants.{RuleCountTooLarge, WrongRuleRun, RulesUnfilled, UnknownLiteral}
+use Rattle.layout.specs.Areas.{count, offset}
+use Rattle.layout.specs.declared.area.Area.the-variants.{Statements, Rules, Literals, Aggregates}
+use Rattle.refusal.specs.declared.Fault.{Fault}
+use Rattle.refusal.specs.declared.Refusal.the-variants.{RuleCountTooLarge, WrongRuleRun, RulesUnfilled, UnknownLiteral}
 use lib.Dec.{eqb, leb, ltb}
 use mathlib.Core.List.{List, _++_}
 

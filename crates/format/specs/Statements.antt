@@ -1,11 +1,11 @@
 -- Statements and their names.
 use Prim.Native.Nat.{ℕ, zero, suc, _+_, _*_}
-use Rattle.format.specs.Bytes.{byte-at, word-at}
+use Rattle.layout.specs.Bytes.{byte-at, word-at}
 use Rattle.format.specs.Faults.{when, unless, each}
-use Rattle.format.specs.Header.{count, offset}
-use Rattle.format.specs.declared.area.Area.the-variants.{Statements, Names}
-use Rattle.format.specs.declared.fault.Fault.{Fault}
-use Rattle.format.specs.declared.fault.Refusal.the-variants.{WrongNameRun, StatementPadding, NamesUnfilled, NameByte, NameTwice}
+use Rattle.layout.specs.Areas.{count, offset}
+use Rattle.layout.specs.declared.area.Area.the-variants.{Statements, Names}
+use Rattle.refusal.specs.declared.Fault.{Fault}
+use Rattle.refusal.specs.declared.Refusal.the-variants.{WrongNameRun, StatementPadding, NamesUnfilled, NameByte, NameTwice}
 use Rattle.std.specs.shelf.Text.{sameBytes}
 use lib.Dec.{eqb, leb}
 use lib.ListN.{take, drop}

@@ -1,9 +1,9 @@
-use super::area::Area;
-use super::bytes::byte;
-use super::bytes::whole;
-use super::bytes::word;
-use super::fault::Fault;
-use super::fault::Refusal;
+use layout::area::Area;
+use layout::bytes::byte;
+use layout::bytes::whole;
+use layout::bytes::word;
+use refusal::Fault;
+use refusal::Refusal;
 use super::fault::demand;
 use super::records::Records;
 use super::records::check_each;

@@ -1,7 +1,7 @@
 use super::aggregates::check_aggregates;
 use super::aggregates::check_members;
-use super::area::Area;
-use super::fault::Fault;
+use layout::area::Area;
+use refusal::Fault;
 use super::header::check_header;
 use super::rules::check_literals;
 use super::rules::check_rules;

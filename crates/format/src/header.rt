@@ -1,7 +1,7 @@
-use super::area::Area;
-use super::bytes::word;
-use super::fault::Fault;
-use super::fault::Refusal;
+use layout::area::Area;
+use layout::bytes::word;
+use refusal::Fault;
+use refusal::Refusal;
 use super::fault::demand;
 ghost use Rattle.format.specs.Faults.{verdict};
 ghost use Rattle.format.specs.Header.{area-end, count-faults, end-before, every-area, header-faults, offset-faults};

@@ -1,9 +1,7 @@
-pub mod area;
-pub mod bytes;
 pub mod check;
-pub mod fault;
 
 mod aggregates;
+mod fault;
 mod header;
 mod records;
 mod rules;

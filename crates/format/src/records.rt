@@ -1,7 +1,7 @@
-use super::fault::Fault;
+use refusal::Fault;
 ghost use Prim.Native.Nat.{ℕ};
 ghost use Rattle.format.specs.Faults.{each, verdict};
-ghost use Rattle.format.specs.declared.fault.Fault.{Fault};
+ghost use Rattle.refusal.specs.declared.Fault.{Fault};
 ghost use mathlib.Core.List.{List};
 ghost use mathlib.Core.Path.{_≡_};
 

@@ -1,6 +1,6 @@
 -- Bytes of two lists that are the same, put together from numbers to records and from records to the whole.
 use Prim.Native.Nat.{ℕ, zero, suc, _+_, _-_, _*_, _<_}
-use Rattle.format.specs.Bytes.{byte-at, whole-at, word-at}
+use Rattle.layout.specs.Bytes.{byte-at, whole-at, word-at}
 use Rattle.std.proofs.shelf.Lists.{ext-getD}
 use Rattle.std.proofs.shelf.Tests.{cases-lt}
 use Rattle.table.proofs.Numbers.{same-whole, same-word}

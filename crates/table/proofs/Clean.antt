@@ -2,17 +2,18 @@
 use Prim.Native.Nat.{ℕ, _<_, _≤_}
 use Rattle.format.proofs.Verdicts.{each-clean, parts}
 use Rattle.format.specs.Aggregates.{aggregate-faults, all-aggregate-faults, first-member, member-count, member-faults, members-end}
-use Rattle.format.specs.Bytes.{word-at}
+use Rattle.layout.specs.Bytes.{word-at}
 use Rattle.format.specs.Check.{accepted, faults, none}
 use Rattle.format.specs.Faults.{each, unless, when}
-use Rattle.format.specs.Header.{area-end, count, count-faults, end-before, every-area, header-faults, most, offset, offset-faults}
+use Rattle.format.specs.Header.{area-end, count-faults, end-before, every-area, header-faults, offset-faults}
+use Rattle.layout.specs.Areas.{count, most, offset}
 use Rattle.format.specs.Rules.{aggregates-end, all-literal-faults, all-rule-faults, first-aggregate, first-literal, literal-faults, literals-end, rule-faults}
 use Rattle.format.specs.Statements.{all-statement-faults, name-byte-faults, name-start, names-end, same-name-faults, statement-faults}
-use Rattle.format.specs.declared.area.Area.{Area}
-use Rattle.format.specs.declared.area.Area.the-variants.{Statements, Rules, Literals, Aggregates, Members, Names}
-use Rattle.format.specs.declared.fault.Fault.{Fault}
-use Rattle.format.specs.declared.fault.Refusal.{Refusal}
-use Rattle.format.specs.declared.fault.Refusal.the-variants.{TooShort, WrongFormat, WrongLength, NamesNotLast, NamesUnfilled, RulesUnfilled}
+use Rattle.layout.specs.declared.area.Area.{Area}
+use Rattle.layout.specs.declared.area.Area.the-variants.{Statements, Rules, Literals, Aggregates, Members, Names}
+use Rattle.refusal.specs.declared.Fault.{Fault}
+use Rattle.refusal.specs.declared.Refusal.{Refusal}
+use Rattle.refusal.specs.declared.Refusal.the-variants.{TooShort, WrongFormat, WrongLength, NamesNotLast, NamesUnfilled, RulesUnfilled}
 use Rattle.std.proofs.shelf.Tests.{eqb-true, leb-true}
 use lib.Dec.{eqb, leb}
 use lib.ListN.{length}

@@ -1,12 +1,13 @@
 -- Two lists of bytes without faults that hold the same rules and the same names are the same.
 use Prim.Native.Nat.{ℕ, zero, suc, _+_, _*_, _<_, _≤_}
 use Rattle.format.specs.Aggregates.{aggregate-at, first-member, member-count}
-use Rattle.format.specs.Bytes.{byte-at}
-use Rattle.format.specs.Header.{area-end, count, end-before, field-of, offset, size}
+use Rattle.layout.specs.Bytes.{byte-at}
+use Rattle.format.specs.Header.{area-end, end-before}
+use Rattle.layout.specs.Areas.{count, field-of, offset, size}
 use Rattle.format.specs.Rules.{aggregate-count, first-aggregate, first-literal, head-count, negative-count, positive-count, rule-at}
 use Rattle.format.specs.Statements.{name-at, name-length, name-start, statement-at}
-use Rattle.format.specs.declared.area.Area.{Area}
-use Rattle.format.specs.declared.area.Area.the-variants.{Statements, Rules, Literals, Aggregates, Members, Names}
+use Rattle.layout.specs.declared.area.Area.{Area}
+use Rattle.layout.specs.declared.area.Area.the-variants.{Statements, Rules, Literals, Aggregates, Members, Names}
 use Rattle.semantics.specs.declared.Relation.{Relation}
 use Rattle.semantics.specs.declared.Relation.the-variants.{Less, AtMost, Equal, Unequal, AtLeast, More}
 use Rattle.std.specs.Joined.{joined}

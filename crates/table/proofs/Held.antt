@@ -2,10 +2,10 @@
 use Prim.Native.Nat.{ℕ, _+_, _<_}
 use Rattle.format.specs.Aggregates.{first-member, member-count}
 use Rattle.format.specs.Check.{accepted}
-use Rattle.format.specs.Header.{count, offset}
+use Rattle.layout.specs.Areas.{count, offset}
 use Rattle.format.specs.Rules.{aggregate-count, first-aggregate, first-literal, head-count, negative-count, positive-count}
 use Rattle.format.specs.Statements.{name-at, name-length, name-start}
-use Rattle.format.specs.declared.area.Area.the-variants.{Statements, Rules, Literals, Aggregates, Members, Names}
+use Rattle.layout.specs.declared.area.Area.the-variants.{Statements, Rules, Literals, Aggregates, Members, Names}
 use Rattle.semantics.specs.Programs.{Rule}
 use Rattle.std.proofs.shelf.Counted.{length-map-counting}
 use Rattle.std.proofs.shelf.Tests.{cond-true}

@@ -1,12 +1,12 @@
 -- What bytes without faults hold is within the limits of the format.
 use Prim.Native.Nat.{ℕ, _+_, _<_, _≤_}
 use Rattle.format.specs.Aggregates.{aggregate-at, first-member, member-count, weight-fits}
-use Rattle.format.specs.Bytes.{byte-at}
+use Rattle.layout.specs.Bytes.{byte-at}
 use Rattle.format.specs.Check.{accepted}
-use Rattle.format.specs.Header.{count, offset}
+use Rattle.layout.specs.Areas.{count, offset}
 use Rattle.format.specs.Rules.{aggregate-count, first-aggregate, first-literal, head-count, negative-count, positive-count}
 use Rattle.format.specs.Statements.{name-at, name-length, name-start}
-use Rattle.format.specs.declared.area.Area.the-variants.{Statements, Rules, Literals, Aggregates, Members, Names}
+use Rattle.layout.specs.declared.area.Area.the-variants.{Statements, Rules, Literals, Aggregates, Members, Names}
 use Rattle.semantics.specs.Lists.{Among}
 use Rattle.semantics.specs.Programs.{Aggregate, Rule}
 use Rattle.semantics.specs.declared.Member.{Member}
@@ -67,7 +67,7 @@ module _ (b : List ℕ) (c : Clean b) where
       ∙ length-total (λ g. g .members) _ (λ g. refl) (aggregates-held b)
       ∙ ap length (members-whole b c) ∙ members-count b
 
-  names-total : size-of length (names-held b) ≡ count b Names
+  pub names-total : size-of length (names-held b) ≡ count b Names
   names-total = length-total (λ name. name) length (λ name. refl) (names-held b) ∙ ap length (letters-whole b c) ∙ letters-count b c
 
   -- names

@@ -1,6 +1,6 @@
 -- Numbers in bytes: how large they are, and that they say what the bytes are.
 use Prim.Native.Nat.{ℕ, _+_, _*_, _<_}
-use Rattle.format.specs.Bytes.{byte-at, whole-at, word-at}
+use Rattle.layout.specs.Bytes.{byte-at, whole-at, word-at}
 use Rattle.std.proofs.shelf.Signed.{ints, ofZ-toZ}
 use Rattle.table.specs.Limits.{Bytes}
 use lib.IntN.{pos, negsuc}

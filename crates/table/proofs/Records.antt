@@ -2,12 +2,12 @@
 use Prim.Native.Nat.{ℕ, _+_, _<_, _≤_}
 use Rattle.format.proofs.Verdicts.{each-clean, parts}
 use Rattle.format.specs.Aggregates.{aggregate-at, aggregate-faults, first-member, member-at, member-count, member-faults, members-end, same-member-faults, weight-fits}
-use Rattle.format.specs.Bytes.{byte-at, whole-at}
+use Rattle.layout.specs.Bytes.{byte-at, whole-at}
 use Rattle.format.specs.Faults.{each}
-use Rattle.format.specs.Header.{count, offset}
+use Rattle.layout.specs.Areas.{count, offset}
 use Rattle.format.specs.Rules.{aggregate-count, aggregates-end, first-aggregate, first-literal, head-count, literal-count, literal-faults, literals-end, negative-count, positive-count, rule-faults}
 use Rattle.format.specs.Statements.{name-byte-faults, name-length, name-start, names-end, statement-at, statement-faults}
-use Rattle.format.specs.declared.area.Area.the-variants.{Statements, Rules, Literals, Aggregates, Members, Names}
+use Rattle.layout.specs.declared.area.Area.the-variants.{Statements, Rules, Literals, Aggregates, Members, Names}
 use Rattle.std.proofs.shelf.Tests.{eqb-false}
 use Rattle.table.proofs.Clean.{Clean, aggregate-joined, fails, holds, literal-joined, member-joined, name-joined}
 use Rattle.table.proofs.Runs.{Runs, run-inside}

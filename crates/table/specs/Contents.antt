@@ -1,12 +1,12 @@
 -- What the bytes of a table stand for.
 use Prim.Native.Nat.{ℕ, zero, suc, _+_, _*_}
 use Rattle.format.specs.Aggregates.{aggregate-at, first-member, member-count}
-use Rattle.format.specs.Bytes.{byte-at, whole-at}
+use Rattle.layout.specs.Bytes.{byte-at, whole-at}
 use Rattle.format.specs.Check.{accepted}
-use Rattle.format.specs.Header.{count, offset}
+use Rattle.layout.specs.Areas.{count, offset}
 use Rattle.format.specs.Rules.{aggregate-count, first-aggregate, first-literal, head-count, negative-count, positive-count}
 use Rattle.format.specs.Statements.{name-at}
-use Rattle.format.specs.declared.area.Area.the-variants.{Statements, Rules, Literals, Aggregates, Members}
+use Rattle.layout.specs.declared.area.Area.the-variants.{Statements, Rules, Literals, Aggregates, Members}
 use Rattle.semantics.specs.Programs.{Aggregate, Rule, Program}
 use Rattle.semantics.specs.declared.Member.{Member}
 use Rattle.semantics.specs.declared.Relation.{Relation}

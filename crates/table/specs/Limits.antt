@@ -1,6 +1,8 @@
 -- What the format allows, said of what the bytes stand for.
 use Prim.Native.Nat.{ℕ, _+_, _<_, _≤_}
 use Rattle.format.specs.Check.{accepted}
+use Rattle.layout.specs.declared.area.Area.{Area}
+use Rattle.layout.specs.declared.area.Area.the-variants.{Statements, Rules, Literals, Aggregates, Members, Names}
 use Rattle.semantics.specs.Lists.{Among}
 use Rattle.semantics.specs.Programs.{Aggregate, Rule}
 use Rattle.semantics.specs.declared.Member.{Member}
@@ -19,6 +21,15 @@ size-of f (x ∷ xs) = f x + size-of f xs
 
 abbrev pub literals-in : Rule → ℕ
 literals-in r = length (r .head) + length (r .positive) + length (r .negative)
+
+-- how many records of an area the contents make
+abbrev pub how-many : Contents → Area → ℕ
+how-many c Statements = length (c .names)
+how-many c Rules = length (c .rules)
+how-many c Literals = length (c .literals)
+how-many c Aggregates = length (c .aggregates)
+how-many c Members = length (c .members)
+how-many c Names = size-of length (c .names)
 
 -- no two places of the list hold the same
 abbrev pub Distinct : {X : Type 0} → (ℕ → X) → ℕ → Type 0

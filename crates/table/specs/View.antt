@@ -1,9 +1,10 @@
 -- What a reading of a table shows of its contents.
 use Prim.Native.Nat.{ℕ, _+_, _-_, _*_, _<_, _≤_}
-use Rattle.format.specs.Bytes.{byte-at, whole-at, word-at}
+use Rattle.layout.specs.Bytes.{byte-at, whole-at, word-at}
 use Rattle.format.specs.Check.{accepted}
-use Rattle.format.specs.Header.{count, offset, size}
-use Rattle.format.specs.declared.area.Area.{Area}
+use Rattle.layout.specs.Areas.{count, offset, size}
+use Rattle.layout.specs.declared.area.Area.{Area}
+use Rattle.layout.specs.declared.area.Area.the-variants.{Names}
 use Rattle.semantics.specs.Programs.{Aggregate, Rule}
 use Rattle.semantics.specs.declared.Member.{Member}
 use Rattle.semantics.specs.declared.Relation.the-variants.{Less}
@@ -52,6 +53,9 @@ no-member = record { statement = 0; weight = pos 0 }
 -- the records of the format, by their place
 abbrev pub run : ℕ → ℕ → Run
 run first n = record { first = first; end = first + n }
+
+abbrev pub name-read : List ℕ → ℕ → List ℕ
+name-read b at = slice (offset b Names + word-at b at) (byte-at b (at + 2)) b
 
 abbrev pub rule-read : List ℕ → ℕ → RuleView
 rule-read b at = record {

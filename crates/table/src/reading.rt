@@ -1,14 +1,31 @@
 use super::table::AggregateView;
 use super::table::RuleView;
 use super::table::Run;
-use format::bytes::byte;
-use format::bytes::whole;
-use format::bytes::word;
+use format::check::check;
+use layout::area::Area;
+use layout::bytes::byte;
+use layout::bytes::part;
+use layout::bytes::whole;
+use layout::bytes::word;
 use semantics::Member;
 use semantics::Relation;
-ghost use Rattle.table.specs.Contents.{relation-of};
-ghost use Rattle.table.specs.View.{aggregate-read, member-read, rule-read};
+ghost use Rattle.format.specs.Check.{accepted};
+ghost use Rattle.layout.specs.Bytes.{byte-at};
+ghost use Rattle.table.specs.Contents.{contents, relation-of};
+ghost use Rattle.table.specs.Limits.{OnlyBytes, WithinLimits};
+ghost use Rattle.table.specs.View.{aggregate-read, member-read, name-read, rule-read};
+ghost use mathlib.Core.Bool.{true};
 ghost use mathlib.Core.Path.{_≡_};
+
+// Whether the check accepts the bytes. What accepted bytes stand for is within the limits of the format, and no other
+// bytes stand for the same rules and names.
+pub fn accepts(bytes: &[u8]) -> bool
+    ensures value { λ r. ⌜ r ≡ accepted (now (bytes .entry)) ⌝ }
+    ensures limits { λ r. ⌜ (r ≡ true → WithinLimits (contents (now (bytes .entry)))) ⌝ }
+    ensures only { λ _. ⌜ OnlyBytes (now (bytes .entry)) ⌝ }
+{
+    check(bytes).is_ok()
+}
 
 // The records of the format, by their place.
 
@@ -24,6 +41,19 @@ fn relation(code: u8) -> Relation
         4 => Relation::AtLeast,
         _ => Relation::More,
     }
+}
+
+pub fn read_literal(bytes: &[u8], at: u32) -> u16
+    ensures { λ r. ⌜ r ≡ byte-at (now (bytes .entry)) at ⌝ }
+{
+    byte(bytes, at as usize) as u16
+}
+
+pub fn read_name(bytes: &[u8], at: u32) -> &[u8]
+    ensures { λ r. ⌜ now r ≡ name-read (now (bytes .entry)) at ⌝ }
+{
+    let start = Area::Names.offset(bytes) as usize + word(bytes, at as usize) as usize;
+    part(bytes, start, byte(bytes, at as usize + 2) as usize)
 }
 
 pub fn read_rule(bytes: &[u8], at: u32) -> RuleView

@@ -1,20 +1,19 @@
+use super::reading::accepts;
 use super::reading::read_aggregate;
+use super::reading::read_literal;
 use super::reading::read_member;
+use super::reading::read_name;
 use super::reading::read_rule;
 use super::table::AggregateView;
 use super::table::RuleView;
 use super::table::Run;
 use super::table::Table;
-use format::area::Area;
-use format::bytes::byte;
-use format::bytes::part;
-use format::bytes::word;
-use format::check::check;
+use layout::area::Area;
 use semantics::Member;
 use semantics::Relation;
 ghost use Prim.Native.Nat.{_<_};
 ghost use Rattle.format.specs.Check.{accepted};
-ghost use Rattle.table.specs.Limits.{MemberLimits, OnlyBytes, WithinLimits};
+ghost use Rattle.table.specs.Limits.{MemberLimits, OnlyBytes, WithinLimits, how-many};
 ghost use Rattle.table.specs.Tables.{contents-of};
 ghost use Rattle.table.specs.View.{Placed, ShowsAggregate, ShowsRule, no-aggregate, no-member, no-rule};
 ghost use lib.ListN.{getD, length};
@@ -37,7 +36,7 @@ impl<'a> Table<'a> {
         ensures limits { λ r. ⌜ (r .opened ≡ true → WithinLimits (contents-of r)) ⌝ }
         ensures only { λ r. ⌜ OnlyBytes (now (r .bytes)) ⌝ }
     {
-        Table { bytes, opened: check(bytes).is_ok() }
+        Table { bytes, opened: accepts(bytes) }
     }
 
     // Whether the check accepted the bytes.
@@ -57,18 +56,24 @@ impl<'a> Table<'a> {
         Some((area.offset(self.bytes) as usize + area.size() * i) as u32)
     }
 
+    fn held(&self, area: Area) -> u16
+        ensures { λ r. ⌜ r ≡ how-many (contents-of (now (self .entry))) area ⌝ }
+    {
+        if self.opened { area.count(self.bytes) } else { 0 }
+    }
+
     // How many statements there are.
     pub fn statements(&self) -> u16
         ensures { λ r. ⌜ r ≡ length (contents-of (now (self .entry)) .names) ⌝ }
     {
-        if self.opened { Area::Statements.count(self.bytes) } else { 0 }
+        self.held(Area::Statements)
     }
 
     // How many rules there are.
     pub fn rules(&self) -> usize
         ensures { λ r. ⌜ r ≡ length (contents-of (now (self .entry)) .rules) ⌝ }
     {
-        if self.opened { Area::Rules.count(self.bytes) as usize } else { 0 }
+        self.held(Area::Rules) as usize
     }
 
     // Rule i; past the last one, a rule with nothing in it.
@@ -87,7 +92,7 @@ impl<'a> Table<'a> {
         ensures known { λ r. ⌜ (k < length (contents-of (now (self .entry)) .literals) → r < length (contents-of (now (self .entry)) .names)) ⌝ }
     {
         match self.place(Area::Literals, k) {
-            Some(at) => byte(self.bytes, at as usize) as u16,
+            Some(at) => read_literal(self.bytes, at),
             None => 0,
         }
     }
@@ -118,10 +123,7 @@ impl<'a> Table<'a> {
         ensures { λ r. ⌜ now r ≡ getD (contents-of (now (self .entry)) .names) statement [] ⌝ }
     {
         match self.place(Area::Statements, statement as usize) {
-            Some(at) => {
-                let start = Area::Names.offset(self.bytes) as usize + word(self.bytes, at as usize) as usize;
-                part(self.bytes, start, byte(self.bytes, at as usize + 2) as usize)
-            }
+            Some(at) => read_name(self.bytes, at),
             None => &self.bytes[0..0],
         }
     }

@@ -1,8 +1,8 @@
 use Rattle.format.proofs.Verdicts.{leaves-here, leaves-last, goes-past, ends-clean}
 use Rattle.format.proofs.check.check.Needs as need
 use Rattle.format.specs.Check.{counts-of}
-use Rattle.format.specs.Header.{count}
-use Rattle.format.specs.declared.area.Area.the-variants.{Statements, Rules, Literals, Aggregates, Members, Names}
+use Rattle.layout.specs.Areas.{count}
+use Rattle.layout.specs.declared.area.Area.the-variants.{Statements, Rules, Literals, Aggregates, Members, Names}
 use Rattle.format.specs.declared.check.Counts.{Counts}
 use Rattle.std.specs.declared.result.Result.the-variants.{Ok}
 use Prim.Native.Nat.{ℕ}

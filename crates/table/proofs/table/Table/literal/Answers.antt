@@ -8,7 +8,7 @@ pub returns-in-Some : need.returns-in-Some
 returns-in-Some c =
     let p = c .in-Some .ensures tt in
     let known = literal-known _ (p .0) (c .args .k) (c .in-Some .at) (p .1) (p .2) in
-    record { value = c .byte .ensures ∙ literal-there _ (p .0) (c .args .k) (c .in-Some .at) (p .1) (p .2); known = λ _. rw (c .byte .ensures) known }
+    record { value = c .read-literal .ensures ∙ literal-there _ (p .0) (c .args .k) (c .in-Some .at) (p .1) (p .2); known = λ _. rw (c .read-literal .ensures) known }
 
 pub returns-in-None : need.returns-in-None
 returns-in-None c =

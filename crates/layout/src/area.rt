@@ -1,5 +1,5 @@
 use super::bytes::word;
-ghost use Rattle.format.specs.Header.{count, field-of, most, offset, size};
+ghost use Rattle.layout.specs.Areas.{count, field-of, most, offset, size};
 ghost use mathlib.Core.Path.{_≡_};
 
 // The six areas of a table, in their order.
@@ -15,7 +15,7 @@ pub enum Area {
 
 impl Area {
     // Where the header has the area's count; the offset stands behind it.
-    pub(crate) fn field(self) -> usize
+    pub fn field(self) -> usize
         ensures { λ r. ⌜ r ≡ field-of self ⌝ }
     {
         match self {
@@ -29,7 +29,7 @@ impl Area {
     }
 
     // The most records that the area may have.
-    pub(crate) fn most(self) -> u16
+    pub fn most(self) -> u16
         ensures { λ r. ⌜ r ≡ most self ⌝ }
     {
         match self {

@@ -1,9 +1,9 @@
 -- The number and the layer of each refusal.
 use Prim.Native.Nat.{ℕ}
-use Rattle.format.specs.declared.fault.Layer.{Layer}
-use Rattle.format.specs.declared.fault.Layer.the-variants.{Header, Statements, Rules, Literals, Aggregates, Members}
-use Rattle.format.specs.declared.fault.Refusal.{Refusal}
-use Rattle.format.specs.declared.fault.Refusal.the-variants.{TooShort, WrongFormat, WrongLength, CountTooLarge, WrongOffset, NamesNotLast, WrongNameRun, StatementPadding, NamesUnfilled, NameByte, NameTwice, RuleCountTooLarge, WrongRuleRun, RulesUnfilled, UnknownLiteral, UnknownRelation, WrongMemberRun, AggregatePadding, MembersUnfilled, UnknownMember, MemberPadding, WeightTooLarge, MemberTwice}
+use Rattle.refusal.specs.declared.Layer.{Layer}
+use Rattle.refusal.specs.declared.Layer.the-variants.{Header, Statements, Rules, Literals, Aggregates, Members}
+use Rattle.refusal.specs.declared.Refusal.{Refusal}
+use Rattle.refusal.specs.declared.Refusal.the-variants.{TooShort, WrongFormat, WrongLength, CountTooLarge, WrongOffset, NamesNotLast, WrongNameRun, StatementPadding, NamesUnfilled, NameByte, NameTwice, RuleCountTooLarge, WrongRuleRun, RulesUnfilled, UnknownLiteral, UnknownRelation, WrongMemberRun, AggregatePadding, MembersUnfilled, UnknownMember, MemberPadding, WeightTooLarge, MemberTwice}
 
 -- what the outside sees of a refusal
 abbrev pub seen : Refusal → ℕ × Layer

@@ -1,5 +1,5 @@
 use Rattle.std.proofs.shelf.Lists.{getD-past}
-use Rattle.format.proofs.bytes.byte.Needs as need
+use Rattle.layout.proofs.bytes.byte.Needs as need
 use mathlib.Core.Path.{sym}
 
 pub returns-else-at-bytes : need.returns-else-at-bytes
