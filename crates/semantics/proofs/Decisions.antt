@@ -10,7 +10,7 @@ use Rattle.std.proofs.shelf.Lists.{ext-getD, getD-past}
 use Rattle.std.proofs.shelf.Tests.{both-ways, cases-eq, cases-lt, false≢true, not-from-false, not-true, true≢false}
 use Rattle.std.specs.Orderings.{Decides}
 use lib.ListN.{getD, length}
-use mathlib.Core.Bool.{Bool, Bool·beq, true, false, not}
+use mathlib.Core.Bool.{Bool, true, false, not}
 use mathlib.Core.List.{List, [], _∷_}
 use mathlib.Core.Logic.{_⊎_, inl, inr, ⊎-elim}
 use mathlib.Core.Path.{_≡_, refl, sym, ap, subst, _∙_}
@@ -21,19 +21,6 @@ refuted-by P n = ((λ e. absurd (false≢true e)), (λ p. absurd (n p)))
 
 pub shown-by : (P : Type 0) → P → Decides true P
 shown-by P p = ((λ _. p), (λ _. refl))
-
--- A test of two truth values.
-pub differ : (x y : Bool) → not (Bool·beq x y) ≡ true → x ≡ y → ⊥
-differ true true e h = false≢true e
-differ true false e h = true≢false h
-differ false true e h = false≢true h
-differ false false e h = false≢true e
-
-pub same : (x y : Bool) → not (Bool·beq x y) ≡ false → x ≡ y
-same true true e = refl
-same true false e = absurd (true≢false e)
-same false true e = absurd (true≢false e)
-same false false e = refl
 
 -- One mark.
 pub allows-decides : (v : Mark) (b t : Bool) → t ≡ elim v [ Open ↦ true | In ↦ b | Out ↦ not b ] → Decides t (Allows v b)

@@ -1,20 +1,31 @@
 use super::Finding;
-ghost use Prim.Native.Nat.{ℕ, _<_};
 ghost use Rattle.semantics.specs.AnswerSets.{AgreesWith};
 ghost use Rattle.semantics.specs.Rows.{Precedes, ProperPart, has};
 ghost use Rattle.semantics.specs.Theorems.{Antichain, NotedAgrees, Order, Supported};
 ghost use Rattle.std.specs.Orderings.{Decides};
-ghost use mathlib.Core.Bool.{true};
+ghost use mathlib.Core.Bool.{false, true};
 ghost use mathlib.Core.Path.{_≡_};
 
 // Sets of statements as rows of marks: place q is true where statement q is in the set.
+
+fn place(row: &[bool], statement: usize) -> bool
+    ensures { λ r. ⌜ r ≡ has (now (row .entry)) statement ⌝ }
+{
+    if statement < row.len() { row[statement] } else { false }
+}
+
+fn differ(x: bool, y: bool) -> bool
+    ensures { λ r. ⌜ (r ≡ true → x ≡ y → ⊥) ⌝ ∗ ⌜ (r ≡ false → x ≡ y) ⌝ }
+{
+    x != y
+}
 
 // Whether a row has a statement; past its end it has none. A statement of an answer set has a supporting rule.
 pub fn has(row: &[bool], statement: usize) -> bool
     ensures value { λ r. ⌜ r ≡ has (now (row .entry)) statement ⌝ }
     ensures supported { λ r. ⌜ (r ≡ true → Supported (now (row .entry)) statement) ⌝ }
 {
-    if statement < row.len() { row[statement] } else { false }
+    place(row, statement)
 }
 
 // Whether a row comes before another: at the first difference it has the statement. The order is strict and total.
@@ -23,7 +34,7 @@ pub fn precedes(row: &[bool], other: &[bool]) -> bool
     ensures order { λ _. ⌜ Order ⌝ }
 {
     for (q, x) in row.iter().enumerate() {
-        if *x != has(other, q) {
+        if differ(*x, place(other, q)) {
             return *x;
         }
     }
@@ -48,13 +59,19 @@ pub fn is_proper_part(part: &[bool], whole: &[bool]) -> bool
     smaller
 }
 
+fn contradicts(finding: Finding, row: &[bool]) -> bool
+    ensures { λ r. ⌜ (r ≡ true → has (now (row .entry)) (finding .statement) ≡ finding .present → ⊥) ⌝ ∗ ⌜ (r ≡ false → has (now (row .entry)) (finding .statement) ≡ finding .present) ⌝ }
+{
+    differ(place(row, finding.statement as usize), finding.present)
+}
+
 // Whether a row agrees with findings: it has what was found present, and lacks what was found absent.
 pub fn agrees_with(findings: &[Finding], row: &[bool]) -> bool
     ensures decided { λ r. ⌜ Decides r (AgreesWith (now (findings .entry)) (now (row .entry))) ⌝ }
     ensures noted { λ _. ⌜ NotedAgrees ⌝ }
 {
     for finding in findings {
-        if has(row, finding.statement as usize) != finding.present {
+        if contradicts(*finding, row) {
             return false;
         }
     }
