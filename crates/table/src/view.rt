@@ -50,7 +50,7 @@ impl<'a> Table<'a> {
     fn place(&self, area: Area, i: usize) -> Option<u32>
         ensures { λ r. ⌜ Placed (now (now (self .entry) .bytes)) area i r ⌝ }
     {
-        if !self.opened || i >= area.count(self.bytes) as usize {
+        if !self.is_opened() || i >= area.count(self.bytes) as usize {
             return None;
         }
         Some((area.offset(self.bytes) as usize + area.size() * i) as u32)
@@ -59,7 +59,7 @@ impl<'a> Table<'a> {
     fn held(&self, area: Area) -> u16
         ensures { λ r. ⌜ r ≡ how-many (contents-of (now (self .entry))) area ⌝ }
     {
-        if self.opened { area.count(self.bytes) } else { 0 }
+        if self.is_opened() { area.count(self.bytes) } else { 0 }
     }
 
     // How many statements there are.
