@@ -65,12 +65,13 @@ each-first : {X Y : Type 0} (f : ℕ → List Fault) (n i : ℕ) (x : X) (y : Y)
 unfolding each
 each-first f zero i x y e l before h = absurd (omega arith)
 each-first f (suc n) i x y e l before h =
-    elim (cases-lt i n)
-    [ inl m ↦ front-fault (each n f) (f n) y y e (each-first f n i x y e m before h)
-    | inr m ↦
-        let q : n ≡ i = omega arith in
-        let none : each n f ≡ [] = each-none f n (λ k m′. before k (omega arith)) in
-        rw (none, q) (same-fault (f i) x y e h) ]
+    elim (cases-lt i n) [
+      | inl m ↦ front-fault (each n f) (f n) y y e (each-first f n i x y e m before h)
+      | inr m ↦
+          let q : n ≡ i = omega arith in
+          let none : each n f ≡ [] = each-none f n (λ k m′. before k (omega arith)) in
+          rw (none, q) (same-fault (f i) x y e h)
+    ]
 
 -- A loop of checks: where it leaves, its next turn, and its end.
 pub each-leaves : (r : Result (Unit {0}) Fault) (f : ℕ → List Fault) (n i : ℕ) (e : Fault) → ErrBy r (λ y. y ≡ e) → Err e ≡ verdict (f i) (tt {0}) → i < n → ((k : ℕ) → k < i → f k ≡ []) → r ≡ verdict (each n f) (tt {0})

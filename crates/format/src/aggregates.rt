@@ -1,12 +1,12 @@
+use super::fault::demand;
+use super::records::Records;
+use super::records::check_each;
 use layout::area::Area;
 use layout::bytes::byte;
 use layout::bytes::whole;
 use layout::bytes::word;
 use refusal::Fault;
 use refusal::Refusal;
-use super::fault::demand;
-use super::records::Records;
-use super::records::check_each;
 ghost use Rattle.format.specs.Aggregates.{aggregate-at, aggregate-faults, all-aggregate-faults, all-member-faults, member-at, member-faults, members-end, same-member-faults, set-faults};
 ghost use Rattle.format.specs.Faults.{verdict};
 ghost use mathlib.Core.Path.{_≡_};
@@ -41,7 +41,11 @@ impl Records for AggregateRecords as EveryAggregate {
         let at = aggregate_at(bytes, i);
         let joined = word(bytes, at + 4) as usize == members_end(bytes, i);
         demand(byte(bytes, at + 1) <= 5, Refusal::UnknownRelation, at + 1)?;
-        demand(byte(bytes, at + 2) <= 128 && joined, Refusal::WrongMemberRun, at)?;
+        demand(
+            byte(bytes, at + 2) <= 128 && joined,
+            Refusal::WrongMemberRun,
+            at,
+        )?;
         demand(byte(bytes, at + 3) == 0, Refusal::AggregatePadding, at + 3)?;
         demand(byte(bytes, at + 6) == 0, Refusal::AggregatePadding, at + 6)?;
         demand(byte(bytes, at + 7) == 0, Refusal::AggregatePadding, at + 7)
@@ -54,7 +58,11 @@ pub fn check_aggregates(bytes: &[u8]) -> Result<(), Fault>
     let count = Area::Aggregates.count(bytes);
     let members = Area::Members.count(bytes) as usize;
     check_each(&AggregateRecords, bytes, count)?;
-    demand(members_end(bytes, count) == members, Refusal::MembersUnfilled, 20)
+    demand(
+        members_end(bytes, count) == members,
+        Refusal::MembersUnfilled,
+        20,
+    )
 }
 
 // The place of member k of the set of aggregate i.
@@ -94,12 +102,27 @@ impl Records for SetMembers as EverySetMember {
     fn check_one(&self, bytes: &[u8], i: u16) -> Result<(), Fault> {
         let at = member_at(bytes, self.set, i);
         let weight = whole(bytes, at + 4);
-        demand((byte(bytes, at) as u16) < Area::Statements.count(bytes), Refusal::UnknownMember, at)?;
+        demand(
+            (byte(bytes, at) as u16) < Area::Statements.count(bytes),
+            Refusal::UnknownMember,
+            at,
+        )?;
         demand(byte(bytes, at + 1) == 0, Refusal::MemberPadding, at + 1)?;
         demand(byte(bytes, at + 2) == 0, Refusal::MemberPadding, at + 2)?;
         demand(byte(bytes, at + 3) == 0, Refusal::MemberPadding, at + 3)?;
-        demand(-WEIGHT <= weight && weight <= WEIGHT, Refusal::WeightTooLarge, at + 4)?;
-        check_each(&MembersBefore { set: self.set, member: i }, bytes, i)
+        demand(
+            -WEIGHT <= weight && weight <= WEIGHT,
+            Refusal::WeightTooLarge,
+            at + 4,
+        )?;
+        check_each(
+            &MembersBefore {
+                set: self.set,
+                member: i,
+            },
+            bytes,
+            i,
+        )
     }
 }
 
@@ -109,7 +132,11 @@ impl Records for Sets as EverySet {
     ghost found = { λ _ b i. set-faults b i };
 
     fn check_one(&self, bytes: &[u8], i: u16) -> Result<(), Fault> {
-        check_each(&SetMembers { set: i }, bytes, byte(bytes, aggregate_at(bytes, i) + 2) as u16)
+        check_each(
+            &SetMembers { set: i },
+            bytes,
+            byte(bytes, aggregate_at(bytes, i) + 2) as u16,
+        )
     }
 }
 

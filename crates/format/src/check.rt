@@ -1,11 +1,11 @@
 use super::aggregates::check_aggregates;
 use super::aggregates::check_members;
-use layout::area::Area;
-use refusal::Fault;
 use super::header::check_header;
 use super::rules::check_literals;
 use super::rules::check_rules;
 use super::statements::check_statements;
+use layout::area::Area;
+use refusal::Fault;
 ghost use Rattle.format.specs.Check.{counts-of, faults};
 ghost use Rattle.format.specs.Faults.{verdict};
 ghost use mathlib.Core.Path.{_≡_};

@@ -7,5 +7,9 @@ ghost use mathlib.Core.Path.{_≡_};
 pub fn demand(holds: bool, refusal: Refusal, place: usize) -> Result<(), Fault>
     ensures { λ r. ⌜ r ≡ verdict (unless holds refusal place) tt ⌝ }
 {
-    if holds { Ok(()) } else { Err(Fault { refusal, place }) }
+    if holds {
+        Ok(())
+    } else {
+        Err(Fault { refusal, place })
+    }
 }

@@ -1,8 +1,8 @@
+use super::fault::demand;
 use layout::area::Area;
 use layout::bytes::word;
 use refusal::Fault;
 use refusal::Refusal;
-use super::fault::demand;
 ghost use Rattle.format.specs.Faults.{verdict};
 ghost use Rattle.format.specs.Header.{area-end, count-faults, end-before, every-area, header-faults, offset-faults};
 ghost use mathlib.Core.Path.{_≡_};
@@ -35,7 +35,11 @@ fn end_before(bytes: &[u8], area: Area) -> usize
 fn check_count(bytes: &[u8], area: Area) -> Result<(), Fault>
     ensures { λ r. ⌜ r ≡ verdict (count-faults (now (bytes .entry)) area) tt ⌝ }
 {
-    demand(area.count(bytes) <= area.most(), Refusal::CountTooLarge, area.field())
+    demand(
+        area.count(bytes) <= area.most(),
+        Refusal::CountTooLarge,
+        area.field(),
+    )
 }
 
 fn check_counts(bytes: &[u8]) -> Result<(), Fault>
@@ -52,7 +56,11 @@ fn check_counts(bytes: &[u8]) -> Result<(), Fault>
 fn check_offset(bytes: &[u8], area: Area) -> Result<(), Fault>
     ensures { λ r. ⌜ r ≡ verdict (offset-faults (now (bytes .entry)) area) tt ⌝ }
 {
-    demand(area.offset(bytes) as usize == end_before(bytes, area), Refusal::WrongOffset, area.field() + 2)
+    demand(
+        area.offset(bytes) as usize == end_before(bytes, area),
+        Refusal::WrongOffset,
+        area.field() + 2,
+    )
 }
 
 fn check_offsets(bytes: &[u8]) -> Result<(), Fault>
@@ -71,8 +79,16 @@ pub fn check_header(bytes: &[u8]) -> Result<(), Fault>
 {
     demand(HEADER <= bytes.len(), Refusal::TooShort, bytes.len())?;
     demand(word(bytes, 0) == FORMAT, Refusal::WrongFormat, 0)?;
-    demand(word(bytes, 2) as usize == bytes.len(), Refusal::WrongLength, 2)?;
+    demand(
+        word(bytes, 2) as usize == bytes.len(),
+        Refusal::WrongLength,
+        2,
+    )?;
     check_counts(bytes)?;
     check_offsets(bytes)?;
-    demand(area_end(bytes, Area::Names) == bytes.len(), Refusal::NamesNotLast, 24)
+    demand(
+        area_end(bytes, Area::Names) == bytes.len(),
+        Refusal::NamesNotLast,
+        24,
+    )
 }

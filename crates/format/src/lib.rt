@@ -1,6 +1,5 @@
-pub mod check;
-
 mod aggregates;
+pub mod check;
 mod fault;
 mod header;
 mod records;

@@ -1,11 +1,11 @@
+use super::fault::demand;
+use super::records::Records;
+use super::records::check_each;
 use layout::area::Area;
 use layout::bytes::byte;
 use layout::bytes::word;
 use refusal::Fault;
 use refusal::Refusal;
-use super::fault::demand;
-use super::records::Records;
-use super::records::check_each;
 ghost use Rattle.format.specs.Faults.{verdict};
 ghost use Rattle.format.specs.Rules.{aggregates-end, all-literal-faults, all-rule-faults, literal-count, literal-faults, literals-end, rule-at, rule-faults};
 ghost use mathlib.Core.Path.{_≡_};
@@ -53,11 +53,27 @@ impl Records for RuleRecords as EveryRule {
     fn check_one(&self, bytes: &[u8], i: u16) -> Result<(), Fault> {
         let at = rule_at(bytes, i);
         demand(byte(bytes, at) <= 8, Refusal::RuleCountTooLarge, at)?;
-        demand(byte(bytes, at + 1) <= 32, Refusal::RuleCountTooLarge, at + 1)?;
-        demand(byte(bytes, at + 2) <= 32, Refusal::RuleCountTooLarge, at + 2)?;
+        demand(
+            byte(bytes, at + 1) <= 32,
+            Refusal::RuleCountTooLarge,
+            at + 1,
+        )?;
+        demand(
+            byte(bytes, at + 2) <= 32,
+            Refusal::RuleCountTooLarge,
+            at + 2,
+        )?;
         demand(byte(bytes, at + 3) <= 4, Refusal::RuleCountTooLarge, at + 3)?;
-        demand(word(bytes, at + 4) as usize == literals_end(bytes, i), Refusal::WrongRuleRun, at + 4)?;
-        demand(word(bytes, at + 6) as usize == aggregates_end(bytes, i), Refusal::WrongRuleRun, at + 6)
+        demand(
+            word(bytes, at + 4) as usize == literals_end(bytes, i),
+            Refusal::WrongRuleRun,
+            at + 4,
+        )?;
+        demand(
+            word(bytes, at + 6) as usize == aggregates_end(bytes, i),
+            Refusal::WrongRuleRun,
+            at + 6,
+        )
     }
 }
 
@@ -68,8 +84,16 @@ pub fn check_rules(bytes: &[u8]) -> Result<(), Fault>
     let literals = Area::Literals.count(bytes) as usize;
     let aggregates = Area::Aggregates.count(bytes) as usize;
     check_each(&RuleRecords, bytes, count)?;
-    demand(literals_end(bytes, count) == literals, Refusal::RulesUnfilled, 12)?;
-    demand(aggregates_end(bytes, count) == aggregates, Refusal::RulesUnfilled, 16)
+    demand(
+        literals_end(bytes, count) == literals,
+        Refusal::RulesUnfilled,
+        12,
+    )?;
+    demand(
+        aggregates_end(bytes, count) == aggregates,
+        Refusal::RulesUnfilled,
+        16,
+    )
 }
 
 struct LiteralRecords;
@@ -79,7 +103,11 @@ impl Records for LiteralRecords as EveryLiteral {
 
     fn check_one(&self, bytes: &[u8], i: u16) -> Result<(), Fault> {
         let at = Area::Literals.offset(bytes) as usize + i as usize;
-        demand((byte(bytes, at) as u16) < Area::Statements.count(bytes), Refusal::UnknownLiteral, at)
+        demand(
+            (byte(bytes, at) as u16) < Area::Statements.count(bytes),
+            Refusal::UnknownLiteral,
+            at,
+        )
     }
 }
 

@@ -1,12 +1,12 @@
+use super::fault::demand;
+use super::records::Records;
+use super::records::check_each;
 use layout::area::Area;
 use layout::bytes::byte;
 use layout::bytes::part;
 use layout::bytes::word;
 use refusal::Fault;
 use refusal::Refusal;
-use super::fault::demand;
-use super::records::Records;
-use super::records::check_each;
 ghost use Rattle.format.specs.Faults.{verdict};
 ghost use Rattle.format.specs.Statements.{all-statement-faults, name-at, name-byte-faults, name-twice-faults, names-end, same-name-faults, statement-at, statement-faults};
 ghost use Rattle.std.specs.shelf.Text.{sameBytes};
@@ -80,7 +80,11 @@ impl Records for NamesBefore as EveryNameBefore {
     ghost found = { λ s b j. same-name-faults b (s .statement) j };
 
     fn check_one(&self, bytes: &[u8], i: u16) -> Result<(), Fault> {
-        demand(!same_name(bytes, i, self.statement), Refusal::NameTwice, statement_at(bytes, self.statement))
+        demand(
+            !same_name(bytes, i, self.statement),
+            Refusal::NameTwice,
+            statement_at(bytes, self.statement),
+        )
     }
 }
 
@@ -100,7 +104,11 @@ pub fn check_statements(bytes: &[u8]) -> Result<(), Fault>
     let count = Area::Statements.count(bytes);
     let names = Area::Names.count(bytes);
     check_each(&StatementRecords, bytes, count)?;
-    demand(names_end(bytes, count) == names as usize, Refusal::NamesUnfilled, 24)?;
+    demand(
+        names_end(bytes, count) == names as usize,
+        Refusal::NamesUnfilled,
+        24,
+    )?;
     check_each(&NameBytes, bytes, names)?;
     check_each(&Names, bytes, count)
 }

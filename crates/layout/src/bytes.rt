@@ -14,7 +14,11 @@ pub fn byte(bytes: &[u8], at: usize) -> u8
 fn all_from(bytes: &[u8], start: usize) -> &[u8]
     ensures { λ r. ⌜ now r ≡ drop start (now (bytes .entry)) ⌝ }
 {
-    if start < bytes.len() { &bytes[start..] } else { &bytes[0..0] }
+    if start < bytes.len() {
+        &bytes[start..]
+    } else {
+        &bytes[0..0]
+    }
 }
 
 // The byte a few places on.
@@ -33,13 +37,22 @@ pub fn word(bytes: &[u8], at: usize) -> u16
 pub fn whole(bytes: &[u8], at: usize) -> i32
     ensures { λ r. ⌜ r ≡ whole-at (now (bytes .entry)) at ⌝ }
 {
-    i32::from_le_bytes([byte(bytes, at), byte_after(bytes, at, 1), byte_after(bytes, at, 2), byte_after(bytes, at, 3)])
+    i32::from_le_bytes([
+        byte(bytes, at),
+        byte_after(bytes, at, 1),
+        byte_after(bytes, at, 2),
+        byte_after(bytes, at, 3),
+    ])
 }
 
 fn at_most(bytes: &[u8], len: usize) -> &[u8]
     ensures { λ r. ⌜ now r ≡ take len (now (bytes .entry)) ⌝ }
 {
-    if len < bytes.len() { &bytes[0..len] } else { bytes }
+    if len < bytes.len() {
+        &bytes[0..len]
+    } else {
+        bytes
+    }
 }
 
 // The bytes from start on, as many as there are and at most len.

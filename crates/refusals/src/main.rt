@@ -41,7 +41,10 @@ fn tell(rt: &LibcRuntime, line: &str) -> Result<(), AnyError> {
         Ok(counts) => {
             let (statements, rules, literals) = (counts.statements, counts.rules, counts.literals);
             let (aggregates, members, names) = (counts.aggregates, counts.members, counts.names);
-            println!(rt, "{name}: accepted {statements} {rules} {literals} {aggregates} {members} {names}")?;
+            println!(
+                rt,
+                "{name}: accepted {statements} {rules} {literals} {aggregates} {members} {names}"
+            )?;
         }
         Err(fault) => {
             let (number, place) = (fault.refusal.number(), fault.place);

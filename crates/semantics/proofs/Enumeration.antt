@@ -129,9 +129,10 @@ abbrev fits-finding : List Bool → Finding → Bool
 fits-finding s f = Bool·beq (has s (f .statement)) (f .present)
 
 decides-fits : (findings : List Finding) (s : List Bool) → Decides (all (fits-finding s) findings) (AgreesWith findings s)
-decides-fits findings s =
-    (λ h f i. decides-same _ _ .0 (all-at (fits-finding s) findings f h i),
-    λ h. all-from (fits-finding s) findings (λ f i. decides-same _ _ .1 (h f i)))
+decides-fits findings s = (
+  λ h f i. decides-same _ _ .0 (all-at (fits-finding s) findings f h i),
+  λ h. all-from (fits-finding s) findings (λ f i. decides-same _ _ .1 (h f i)),
+)
 
 abbrev pub is-account : Values → Program → List Finding → List Bool → Bool
 is-account value p findings s = is-answer value p s && all (fits-finding s) findings

@@ -36,4 +36,5 @@ noted-agrees p findings s n = (
       let inside : q < p .statements = omega (arith, marked-inside (noted p findings) q x e, length-map-counting (found findings) 0 (p .statements)) in
       let f = finding-of-mark findings q x (sym (noted-at p findings q inside) ∙ e) in
       ap (has s) (sym (f .2)) ∙ a (f .0) (f .1) ∙ f .3),
-  (λ a f i. a (f .statement) (f .present) (noted-at p findings (f .statement) (n .inside f i) ∙ n .single f i)))
+  (λ a f i. a (f .statement) (f .present) (noted-at p findings (f .statement) (n .inside f i) ∙ n .single f i)),
+)

@@ -68,4 +68,3 @@ allows-in v false e = ap is-in e
 -- what is marked is a statement
 pub marked-inside : (m : List Mark) (q : ℕ) (x : Bool) → at m q ≡ marked x → q < length m
 marked-inside m q x e = ⊎-elim (λ l. l) (λ l. absurd (open-unmarked x (sym (getD-past m q Open l) ∙ e))) (cases-lt q (length m))
-

@@ -45,7 +45,7 @@ needs-met s t r = all (has t) (r .positive) && all (members-met s t) (r .aggrega
 abbrev pub obeys-rule : Values → List Bool → List Bool → Rule → Bool
 obeys-rule value s t r = not (counts value s r && needs-met s t r) || any (has t) (r .head)
 
--- t obeys against s: it has a head statement of every rule that counts against s and whose needs are in t
+-- t obeys against s: every rule that counts against s, and whose needs t meets, has a head statement in t
 abbrev pub obeys : Values → List Bool → List Bool → List Rule → Bool
 obeys value s t rules = all (obeys-rule value s t) rules
 

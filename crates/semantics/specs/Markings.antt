@@ -133,7 +133,7 @@ pub data Reaches (value : Values) (rules : List Rule) (start : List Mark) : List
   here : Reaches value rules start start
   then : (m n : List Mark) → Reaches value rules start m → Step value rules m n → Reaches value rules start n
 
--- not broken, no step has an open statement to mark, and no step would mark one against its mark
+-- it is not broken, nothing that is open is wanted in or out, and nothing is wanted against its mark
 pub record Settled (value : Values) (rules : List Rule) (m : List Mark) : Type 0 where
   pub whole : Broken value rules m → ⊥
   pub done : (q : ℕ) (x : Bool) → q < length m → at m q ≡ Open → Forces value rules m q x → ⊥

@@ -18,18 +18,23 @@ use Rattle.semantics.specs.Rows.{has}
 -- the statements
 abbrev pub a : ℕ
 a = 0
+
 abbrev pub b : ℕ
 b = 1
+
 abbrev pub c : ℕ
 c = 2
 
 -- house kinds
 abbrev pub count : ℕ
 count = 0
+
 abbrev pub sum : ℕ
 sum = 1
+
 abbrev pub greatest-weight : ℕ
 greatest-weight = 3
+
 -- a bench kind
 abbrev pub spread : ℕ
 spread = 0

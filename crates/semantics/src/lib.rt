@@ -1,6 +1,5 @@
 pub mod markings;
 pub mod rows;
-
 mod theorems;
 
 ghost use Rattle.semantics.specs.Programs.{stands};

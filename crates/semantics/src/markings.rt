@@ -36,7 +36,11 @@ pub fn agrees(marks: &[Mark], row: &[bool]) -> bool
 pub fn mark_at(marks: &[Mark], statement: usize) -> Mark
     ensures { λ r. ⌜ r ≡ at (now (marks .entry)) statement ⌝ }
 {
-    if statement < marks.len() { marks[statement] } else { Mark::Open }
+    if statement < marks.len() {
+        marks[statement]
+    } else {
+        Mark::Open
+    }
 }
 
 // Whether a mark is kept by another: an open one by any, the others by themselves.

@@ -11,7 +11,11 @@ ghost use mathlib.Core.Path.{_≡_};
 fn place(row: &[bool], statement: usize) -> bool
     ensures { λ r. ⌜ r ≡ has (now (row .entry)) statement ⌝ }
 {
-    if statement < row.len() { row[statement] } else { false }
+    if statement < row.len() {
+        row[statement]
+    } else {
+        false
+    }
 }
 
 fn differ(x: bool, y: bool) -> bool

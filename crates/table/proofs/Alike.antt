@@ -25,20 +25,21 @@ module _ {b o : List ℕ} where
   infixl 40 _then_
   pub _then_ : {p q m n : ℕ} → Alike b o p q m → Alike b o (p + m) (q + m) n → Alike b o p q (m + n)
   _then_ {p} {q} {m} {n} x y = record {
-    at = λ k l. elim (cases-lt k m)
-      [ inl h ↦ x .at k h
+    at = λ k l. elim (cases-lt k m) [
+      | inl h ↦ x .at k h
       | inr h ↦
           let e : p + k ≡ p + m + (k - m) = omega arith in
           let e′ : q + m + (k - m) ≡ q + k = omega arith in
-          ap (byte-at b) e ∙ y .at (k - m) (omega arith) ∙ ap (byte-at o) e′ ];
+          ap (byte-at b) e ∙ y .at (k - m) (omega arith) ∙ ap (byte-at o) e′
+    ];
   }
 
   pub same-byte : {p q : ℕ} → byte-at b p ≡ byte-at o q → Alike b o p q 1
   same-byte {p} {q} e = record {
     at = λ k l.
-      let f : p + k ≡ p = omega arith in
-      let g : q ≡ q + k = omega arith in
-      ap (byte-at b) f ∙ e ∙ ap (byte-at o) g;
+        let f : p + k ≡ p = omega arith in
+        let g : q ≡ q + k = omega arith in
+        ap (byte-at b) f ∙ e ∙ ap (byte-at o) g;
   }
 
   pub both-zero : {p q : ℕ} → byte-at b p ≡ 0 → byte-at o q ≡ 0 → Alike b o p q 1

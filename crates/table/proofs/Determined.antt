@@ -118,7 +118,7 @@ module _ (b o : List ℕ) (bytes : Bytes b) (bytes′ : Bytes o) (c : Clean b) (
   same-first-literal : (i : ℕ) → i < count b Rules → first-literal b i ≡ first-literal o i
   same-first-literal =
       same-starts (literal-runs b c) (literal-runs o d) (same-count Rules)
-        (λ i l. omega (arith, same-head-count i l, same-positive-count i l, same-negative-count i l))
+      (λ i l. omega (arith, same-head-count i l, same-positive-count i l, same-negative-count i l))
 
   same-first-aggregate : (i : ℕ) → i < count b Rules → first-aggregate b i ≡ first-aggregate o i
   same-first-aggregate = same-starts (aggregate-runs b c) (aggregate-runs o d) (same-count Rules) same-aggregate-count
@@ -143,7 +143,7 @@ module _ (b o : List ℕ) (bytes : Bytes b) (bytes′ : Bytes o) (c : Clean b) (
   same-code : (j : ℕ) → j < count b Aggregates → byte-at b (aggregate-at b j + 1) ≡ byte-at o (aggregate-at o j + 1)
   same-code =
       same-number Aggregates aggregate-held same-aggregate (λ g. code-of (g .relation)) (λ x j. byte-at x (aggregate-at x j + 1))
-        (λ x clear j l. relation-code _ (aggregate-fits x j (clear .aggregate j l) .relation))
+      (λ x clear j l. relation-code _ (aggregate-fits x j (clear .aggregate j l) .relation))
 
   same-first-member : (j : ℕ) → j < count b Aggregates → first-member b j ≡ first-member o j
   same-first-member = same-starts (member-runs b c) (member-runs o d) (same-count Aggregates) same-member-count

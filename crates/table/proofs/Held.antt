@@ -55,7 +55,7 @@ module _ (b : List ℕ) (c : Clean b) where
   unfolding literals-held
   literals-count =
       length-slice (offset b Literals) (count b Literals) b
-        (omega (arith, areas-end b c, area-joined b c Names, area-joined b c Members, area-joined b c Aggregates))
+      (omega (arith, areas-end b c, area-joined b c Names, area-joined b c Members, area-joined b c Aggregates))
 
   pub letters-count : length (letters-held b) ≡ count b Names
   letters-count = length-slice (offset b Names) (count b Names) b (omega (arith, areas-end b c))
@@ -84,26 +84,26 @@ module _ (b : List ℕ) (c : Clean b) where
   unfolding rules-held
   literals-whole =
       runs-fill literals-of (rule-held b) (literals-held b) (count b Rules) (literal-runs b c)
-        (λ i l. three-slices-joined (first-literal b i) (head-count b i) (positive-count b i) (negative-count b i) (literals-held b))
-        (c .literals-filled ∙ sym literals-count)
+      (λ i l. three-slices-joined (first-literal b i) (head-count b i) (positive-count b i) (negative-count b i) (literals-held b))
+      (c .literals-filled ∙ sym literals-count)
 
   pub aggregates-whole : joined (λ r. r .aggregates) (rules-held b) ≡ aggregates-held b
   unfolding rules-held
   aggregates-whole =
       runs-fill (λ r. r .aggregates) (rule-held b) (aggregates-held b) (count b Rules) (aggregate-runs b c)
-        (λ i l. refl)
-        (c .aggregates-filled ∙ sym (aggregates-count b))
+      (λ i l. refl)
+      (c .aggregates-filled ∙ sym (aggregates-count b))
 
   pub members-whole : joined (λ g. g .members) (aggregates-held b) ≡ members-held b
   unfolding aggregates-held
   members-whole =
       runs-fill (λ g. g .members) (aggregate-held b) (members-held b) (count b Aggregates) (member-runs b c)
-        (λ j l. refl)
-        (c .members-filled ∙ sym (members-count b))
+      (λ j l. refl)
+      (c .members-filled ∙ sym (members-count b))
 
   pub letters-whole : joined (λ name. name) (names-held b) ≡ letters-held b
   unfolding names-held
   letters-whole =
       runs-fill (λ name. name) (name-at b) (letters-held b) (count b Statements) (name-runs b c)
-        (λ i l. sym (slice-of-slice (name-start b i) (name-length b i) (offset b Names) (count b Names) b (name-inside b c i l)))
-        (c .names-filled ∙ sym letters-count)
+      (λ i l. sym (slice-of-slice (name-start b i) (name-length b i) (offset b Names) (count b Names) b (name-inside b c i l)))
+      (c .names-filled ∙ sym letters-count)

@@ -75,7 +75,7 @@ module _ (b : List ℕ) (c : Clean b) where
   name-letters i l x m =
       let p = among-slice (offset b Names + name-start b i) (name-length b i) b x m in
       let e : byte-at b (offset b Names + (name-start b i + p .0)) ≡ x
-            = ap (byte-at b) (sym (add-assoc (offset b Names) (name-start b i) (p .0))) ∙ p .2 0 in
+      = ap (byte-at b) (sym (add-assoc (offset b Names) (name-start b i) (p .0))) ∙ p .2 0 in
       rw (← e) (letter-fits b (name-start b i + p .0) (c .letter _ (omega (arith, p .1, name-inside b c i l))))
 
   name-limits : (i : ℕ) → i < count b Statements → NameLimits (name-at b i)

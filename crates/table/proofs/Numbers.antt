@@ -40,8 +40,8 @@ module _ (b o : List ℕ) (bytes : Bytes b) (bytes′ : Bytes o) (p q : ℕ) whe
   pub same-whole : whole-at b p ≡ whole-at o q → (byte-at b p ≡ byte-at o q) × (byte-at b (p + 1) ≡ byte-at o (q + 1)) × (byte-at b (p + 2) ≡ byte-at o (q + 2)) × (byte-at b (p + 3) ≡ byte-at o (q + 3))
   same-whole e =
       let same : byte-at b p + (byte-at b (p + 1) + (byte-at b (p + 2) + byte-at b (p + 3) * 256) * 256) * 256
-            ≡ byte-at o q + (byte-at o (q + 1) + (byte-at o (q + 2) + byte-at o (q + 3) * 256) * 256) * 256
-            = omega (arith, same-four-bytes e) in
+      ≡ byte-at o q + (byte-at o (q + 1) + (byte-at o (q + 2) + byte-at o (q + 3) * 256) * 256) * 256
+      = omega (arith, same-four-bytes e) in
       let first = same-digits _ _ _ _ (bytes p) (bytes′ q) same in
       let second = same-digits _ _ _ _ (bytes (p + 1)) (bytes′ (q + 1)) (first .1) in
       let third = same-digits _ _ _ _ (bytes (p + 2)) (bytes′ (q + 2)) (second .1) in

@@ -71,9 +71,10 @@ many-shut b a e = rw (contents-shut b e) (none-many a)
 
 many : (b : List ℕ) (a : Area) → how-many (contents b) a ≡ cond (accepted b) (count b a) 0
 many b a =
-    elim (cases-bool (accepted b))
-    [ inl e ↦ many-opened b a e ∙ sym (cond-true (accepted b) (count b a) 0 e)
-    | inr e ↦ many-shut b a e ∙ sym (cond-false (accepted b) (count b a) 0 e) ]
+    elim (cases-bool (accepted b)) [
+      | inl e ↦ many-opened b a e ∙ sym (cond-true (accepted b) (count b a) 0 e)
+      | inr e ↦ many-shut b a e ∙ sym (cond-false (accepted b) (count b a) 0 e)
+    ]
 
 -- Past the last place.
 abbrev no-run : Run

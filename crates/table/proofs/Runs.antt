@@ -42,17 +42,19 @@ module _ {end start len : ℕ → ℕ} where
   pub run-inside : (n : ℕ) → Runs end start len n → (i : ℕ) → i < n → start i + len i ≤ end n
   run-inside zero r i l = absurd (omega arith)
   run-inside (suc n) r i l =
-      elim (cases-lt i n)
-      [ inl h ↦ omega (arith, run-inside n (fewer-runs r) i h, r .next n, r .follows n (omega arith))
-      | inr h ↦ let e : i ≡ n = omega arith in rw e (omega (arith, r .next n)) ]
+      elim (cases-lt i n) [
+        | inl h ↦ omega (arith, run-inside n (fewer-runs r) i h, r .next n, r .follows n (omega arith))
+        | inr h ↦ let e : i ≡ n = omega arith in rw e (omega (arith, r .next n))
+      ]
 
   -- what lies before the end of the last run lies in a run
   pub run-with : (n : ℕ) → Runs end start len n → (k : ℕ) → k < end n → (i : ℕ) × (i < n) × ((m : ℕ) × (m < len i) × (k ≡ start i + m))
   run-with zero r k l = absurd (omega (arith, r .from-zero))
   run-with (suc n) r k l =
-      elim (cases-lt k (end n))
-      [ inl h ↦ let p = run-with n (fewer-runs r) k h in (p .0, omega (arith, p .1), p .2)
-      | inr h ↦ (n, omega arith, (k - end n, omega (arith, r .next n, r .follows n (omega arith)), omega (arith, r .follows n (omega arith)))) ]
+      elim (cases-lt k (end n)) [
+        | inl h ↦ let p = run-with n (fewer-runs r) k h in (p .0, omega (arith, p .1), p .2)
+        | inr h ↦ (n, omega arith, (k - end n, omega (arith, r .next n, r .follows n (omega arith)), omega (arith, r .follows n (omega arith))))
+      ]
 
 -- runs of the same lengths start at the same places
 module _ {end start len end′ start′ len′ : ℕ → ℕ} {m n : ℕ} (runs : Runs end start len m) (runs′ : Runs end′ start′ len′ n) (same : m ≡ n) (long : (i : ℕ) → i < m → len i ≡ len′ i) where

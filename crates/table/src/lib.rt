@@ -1,4 +1,3 @@
 mod reading;
-mod view;
-
 pub mod table;
+mod view;

@@ -61,12 +61,29 @@ pub fn read_rule(bytes: &[u8], at: u32) -> RuleView
 {
     let at = at as usize;
     let first = word(bytes, at + 4) as usize;
-    let head = Run { first, end: first + byte(bytes, at) as usize };
-    let positive = Run { first: head.end, end: head.end + byte(bytes, at + 1) as usize };
-    let negative = Run { first: positive.end, end: positive.end + byte(bytes, at + 2) as usize };
+    let head = Run {
+        first,
+        end: first + byte(bytes, at) as usize,
+    };
+    let positive = Run {
+        first: head.end,
+        end: head.end + byte(bytes, at + 1) as usize,
+    };
+    let negative = Run {
+        first: positive.end,
+        end: positive.end + byte(bytes, at + 2) as usize,
+    };
     let first = word(bytes, at + 6) as usize;
-    let aggregates = Run { first, end: first + byte(bytes, at + 3) as usize };
-    RuleView { head, positive, negative, aggregates }
+    let aggregates = Run {
+        first,
+        end: first + byte(bytes, at + 3) as usize,
+    };
+    RuleView {
+        head,
+        positive,
+        negative,
+        aggregates,
+    }
 }
 
 pub fn read_aggregate(bytes: &[u8], at: u32) -> AggregateView
@@ -74,14 +91,25 @@ pub fn read_aggregate(bytes: &[u8], at: u32) -> AggregateView
 {
     let at = at as usize;
     let first = word(bytes, at + 4) as usize;
-    let members = Run { first, end: first + byte(bytes, at + 2) as usize };
+    let members = Run {
+        first,
+        end: first + byte(bytes, at + 2) as usize,
+    };
     let relation = relation(byte(bytes, at + 1));
-    AggregateView { kind: byte(bytes, at), relation, bound: whole(bytes, at + 8), members }
+    AggregateView {
+        kind: byte(bytes, at),
+        relation,
+        bound: whole(bytes, at + 8),
+        members,
+    }
 }
 
 pub fn read_member(bytes: &[u8], at: u32) -> Member
     ensures { λ r. ⌜ r ≡ member-read (now (bytes .entry)) at ⌝ }
 {
     let at = at as usize;
-    Member { statement: byte(bytes, at) as u16, weight: whole(bytes, at + 4) }
+    Member {
+        statement: byte(bytes, at) as u16,
+        weight: whole(bytes, at + 4),
+    }
 }

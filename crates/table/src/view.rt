@@ -22,9 +22,25 @@ ghost use mathlib.Core.List.{[]};
 ghost use mathlib.Core.Path.{_≡_};
 
 const NO_RUN: Run = Run { first: 0, end: 0 };
-const NO_RULE: RuleView = RuleView { head: NO_RUN, positive: NO_RUN, negative: NO_RUN, aggregates: NO_RUN };
-const NO_AGGREGATE: AggregateView = AggregateView { kind: 0, relation: Relation::Less, bound: 0, members: NO_RUN };
-const NO_MEMBER: Member = Member { statement: 0, weight: 0 };
+
+const NO_RULE: RuleView = RuleView {
+    head: NO_RUN,
+    positive: NO_RUN,
+    negative: NO_RUN,
+    aggregates: NO_RUN,
+};
+
+const NO_AGGREGATE: AggregateView = AggregateView {
+    kind: 0,
+    relation: Relation::Less,
+    bound: 0,
+    members: NO_RUN,
+};
+
+const NO_MEMBER: Member = Member {
+    statement: 0,
+    weight: 0,
+};
 
 // Reading. What a table lacks, and all that an unopened one would have, reads as empty.
 impl<'a> Table<'a> {
@@ -36,7 +52,10 @@ impl<'a> Table<'a> {
         ensures limits { λ r. ⌜ (r .opened ≡ true → WithinLimits (contents-of r)) ⌝ }
         ensures only { λ r. ⌜ OnlyBytes (now (r .bytes)) ⌝ }
     {
-        Table { bytes, opened: accepts(bytes) }
+        Table {
+            bytes,
+            opened: accepts(bytes),
+        }
     }
 
     // Whether the check accepted the bytes.
@@ -59,7 +78,11 @@ impl<'a> Table<'a> {
     fn held(&self, area: Area) -> u16
         ensures { λ r. ⌜ r ≡ how-many (contents-of (now (self .entry))) area ⌝ }
     {
-        if self.is_opened() { area.count(self.bytes) } else { 0 }
+        if self.is_opened() {
+            area.count(self.bytes)
+        } else {
+            0
+        }
     }
 
     // How many statements there are.

@@ -19,9 +19,9 @@ returns c =
           differs = λ e. let d = inv .2 h in d .1 (ap (λ s. has s (d .0)) e);
         }),
         (λ p. ⊎-elim
-        (λ h. h)
-        (λ h. absurd (p .differs (same-throughout (c .args .part .now) (c .args .whole .now) (c .loop-q .q) (c .if-part-whole .left) (c .loop-q-test .left) (inv .1 h))))
-        (cases-bool (c .loop-q .smaller))),
+            (λ h. h)
+            (λ h. absurd (p .differs (same-throughout (c .args .part .now) (c .args .whole .now) (c .loop-q .q) (c .if-part-whole .left) (c .loop-q-test .left) (inv .1 h))))
+            (cases-bool (c .loop-q .smaller))),
       );
       antichain = antichain _ _;
     }
