@@ -1,0 +1,4 @@
+pub mod Adding
+pub mod Joining
+pub mod Placed
+pub mod Reports
