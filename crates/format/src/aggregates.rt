@@ -52,7 +52,7 @@ impl Records for AggregateRecords as EveryAggregate {
     }
 }
 
-pub fn check_aggregates(bytes: &[u8]) -> Result<(), Fault>
+pub(crate) fn check_aggregates(bytes: &[u8]) -> Result<(), Fault>
     ensures { λ r. ⌜ r ≡ verdict (all-aggregate-faults (now (bytes .entry))) tt ⌝ }
 {
     let count = Area::Aggregates.count(bytes);
@@ -140,7 +140,7 @@ impl Records for Sets as EverySet {
     }
 }
 
-pub fn check_members(bytes: &[u8]) -> Result<(), Fault>
+pub(crate) fn check_members(bytes: &[u8]) -> Result<(), Fault>
     ensures { λ r. ⌜ r ≡ verdict (all-member-faults (now (bytes .entry))) tt ⌝ }
 {
     check_each(&Sets, bytes, Area::Aggregates.count(bytes))

@@ -4,7 +4,7 @@ ghost use Rattle.format.specs.Faults.{unless, verdict};
 ghost use mathlib.Core.Path.{_≡_};
 
 // Refuses unless the condition holds.
-pub fn demand(holds: bool, refusal: Refusal, place: usize) -> Result<(), Fault>
+pub(crate) fn demand(holds: bool, refusal: Refusal, place: usize) -> Result<(), Fault>
     ensures { λ r. ⌜ r ≡ verdict (unless holds refusal place) tt ⌝ }
 {
     if holds {

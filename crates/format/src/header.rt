@@ -74,7 +74,7 @@ fn check_offsets(bytes: &[u8]) -> Result<(), Fault>
     check_offset(bytes, Area::Names)
 }
 
-pub fn check_header(bytes: &[u8]) -> Result<(), Fault>
+pub(crate) fn check_header(bytes: &[u8]) -> Result<(), Fault>
     ensures { λ r. ⌜ r ≡ verdict (header-faults (now (bytes .entry))) tt ⌝ }
 {
     demand(HEADER <= bytes.len(), Refusal::TooShort, bytes.len())?;

@@ -6,7 +6,7 @@ ghost use mathlib.Core.List.{List};
 ghost use mathlib.Core.Path.{_≡_};
 
 // A kind of records, each of which is checked by itself.
-pub trait Records {
+pub(crate) trait Records {
     // The faults of record i of the bytes.
     ghost found: { Self → List ℕ → ℕ → List Fault };
 
@@ -15,7 +15,7 @@ pub trait Records {
 }
 
 // The first fault of the records 0 to n - 1.
-pub fn check_each<R: Records>(records: &R, bytes: &[u8], n: u16) -> Result<(), Fault>
+pub(crate) fn check_each<R: Records>(records: &R, bytes: &[u8], n: u16) -> Result<(), Fault>
     ensures { λ r. ⌜ r ≡ verdict (each n (found (now (records .entry)) (now (bytes .entry)))) tt ⌝ }
 {
     for i in 0..n {

@@ -77,7 +77,7 @@ impl Records for RuleRecords as EveryRule {
     }
 }
 
-pub fn check_rules(bytes: &[u8]) -> Result<(), Fault>
+pub(crate) fn check_rules(bytes: &[u8]) -> Result<(), Fault>
     ensures { λ r. ⌜ r ≡ verdict (all-rule-faults (now (bytes .entry))) tt ⌝ }
 {
     let count = Area::Rules.count(bytes);
@@ -111,7 +111,7 @@ impl Records for LiteralRecords as EveryLiteral {
     }
 }
 
-pub fn check_literals(bytes: &[u8]) -> Result<(), Fault>
+pub(crate) fn check_literals(bytes: &[u8]) -> Result<(), Fault>
     ensures { λ r. ⌜ r ≡ verdict (all-literal-faults (now (bytes .entry))) tt ⌝ }
 {
     check_each(&LiteralRecords, bytes, Area::Literals.count(bytes))

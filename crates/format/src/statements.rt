@@ -98,7 +98,7 @@ impl Records for Names as EveryName {
     }
 }
 
-pub fn check_statements(bytes: &[u8]) -> Result<(), Fault>
+pub(crate) fn check_statements(bytes: &[u8]) -> Result<(), Fault>
     ensures { λ r. ⌜ r ≡ verdict (all-statement-faults (now (bytes .entry))) tt ⌝ }
 {
     let count = Area::Statements.count(bytes);

@@ -8,3 +8,4 @@ pub mod Limits
 pub mod Alike
 pub mod Determined
 pub mod Places
+pub mod Example

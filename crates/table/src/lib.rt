@@ -1,3 +1,4 @@
 mod reading;
 pub mod table;
+mod theorems;
 mod view;

@@ -19,7 +19,7 @@ ghost use mathlib.Core.Path.{_≡_};
 
 // Whether the check accepts the bytes. What accepted bytes stand for is within the limits of the format, and no other
 // bytes stand for the same rules and names.
-pub fn accepts(bytes: &[u8]) -> bool
+pub(crate) fn accepts(bytes: &[u8]) -> bool
     ensures value { λ r. ⌜ r ≡ accepted (now (bytes .entry)) ⌝ }
     ensures limits { λ r. ⌜ (r ≡ true → WithinLimits (contents (now (bytes .entry)))) ⌝ }
     ensures only { λ _. ⌜ OnlyBytes (now (bytes .entry)) ⌝ }
@@ -43,20 +43,20 @@ fn relation(code: u8) -> Relation
     }
 }
 
-pub fn read_literal(bytes: &[u8], at: u32) -> u16
+pub(crate) fn read_literal(bytes: &[u8], at: u32) -> u16
     ensures { λ r. ⌜ r ≡ byte-at (now (bytes .entry)) at ⌝ }
 {
     byte(bytes, at as usize) as u16
 }
 
-pub fn read_name(bytes: &[u8], at: u32) -> &[u8]
+pub(crate) fn read_name(bytes: &[u8], at: u32) -> &[u8]
     ensures { λ r. ⌜ now r ≡ name-read (now (bytes .entry)) at ⌝ }
 {
     let start = Area::Names.offset(bytes) as usize + word(bytes, at as usize) as usize;
     part(bytes, start, byte(bytes, at as usize + 2) as usize)
 }
 
-pub fn read_rule(bytes: &[u8], at: u32) -> RuleView
+pub(crate) fn read_rule(bytes: &[u8], at: u32) -> RuleView
     ensures { λ r. ⌜ r ≡ rule-read (now (bytes .entry)) at ⌝ }
 {
     let at = at as usize;
@@ -86,7 +86,7 @@ pub fn read_rule(bytes: &[u8], at: u32) -> RuleView
     }
 }
 
-pub fn read_aggregate(bytes: &[u8], at: u32) -> AggregateView
+pub(crate) fn read_aggregate(bytes: &[u8], at: u32) -> AggregateView
     ensures { λ r. ⌜ r ≡ aggregate-read (now (bytes .entry)) at ⌝ }
 {
     let at = at as usize;
@@ -104,7 +104,7 @@ pub fn read_aggregate(bytes: &[u8], at: u32) -> AggregateView
     }
 }
 
-pub fn read_member(bytes: &[u8], at: u32) -> Member
+pub(crate) fn read_member(bytes: &[u8], at: u32) -> Member
     ensures { λ r. ⌜ r ≡ member-read (now (bytes .entry)) at ⌝ }
 {
     let at = at as usize;
