@@ -1,6 +1,7 @@
 mod pieces;
 mod report;
 mod rules;
+mod theorems;
 mod words;
 
 pub use report::fault_text;

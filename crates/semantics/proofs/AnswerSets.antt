@@ -2,14 +2,14 @@
 use mathlib.Core.Path.{_≡_, refl, sym, ap, ap₂, subst, _∙_}
 use mathlib.Core.List.{List, [], _∷_}
 use mathlib.Core.Bool.{Bool, true, false, not, _&&_, _||_, cond}
-use mathlib.Core.Logic.{_≢_, _⊎_, inl, inr, ⊎-elim}
+use mathlib.Core.Logic.{_⊎_, inl, inr, ⊎-elim}
 use Prim.Native.Nat.{ℕ, _<_}
 use lib.IntN.{ℤ}
-use lib.ListN.{length, getD, set}
+use lib.ListN.{length, set}
 use Rattle.std.proofs.shelf.Lists.{length-set, getD-set-same, getD-set-other, getD-past}
 use Rattle.std.proofs.shelf.Tests.{both-ways, not-true, not-false, cases-lt, cases-eq, cases-bool, and-parts, and-from, or-cases, or-parts, or-left, or-right, not-from-false}
 use Rattle.semantics.specs.declared.Member.{Member}
-use Rattle.semantics.specs.AnswerSets.{weights, passes, true-in, counts, members-met, needs-met, obeys-rule, obeys, AnswerSet, BodyTrue, Supports, Account}
+use Rattle.semantics.specs.AnswerSets.{weights, passes, true-in, counts, members-met, needs-met, obeys-rule, obeys, AnswerSet, Supports}
 use Rattle.semantics.specs.Families.{Values}
 use Rattle.semantics.specs.Lists.{Among, all, any}
 use Rattle.semantics.specs.Programs.{Aggregate, Rule, Program}

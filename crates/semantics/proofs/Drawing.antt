@@ -1,7 +1,7 @@
 -- Runs of steps: soundness, and that the order of steps does not matter.
 use mathlib.Core.Path.{_≡_, refl, sym, ap, subst, _∙_}
 use mathlib.Core.List.{List}
-use mathlib.Core.Bool.{Bool, true, false, not}
+use mathlib.Core.Bool.{Bool, not}
 use mathlib.Core.Logic.{_⊎_, inl, inr, ⊎-elim}
 use Prim.Native.Nat.{ℕ, _<_}
 use native.Mathlib.Omega.{arith}
@@ -9,7 +9,7 @@ use lib.ListN.{length, set}
 use Rattle.std.proofs.shelf.Lists.{length-set, getD-set-same, getD-set-other}
 use Rattle.std.proofs.shelf.Tests.{cases-eq}
 use Rattle.semantics.specs.declared.Mark.{Mark}
-use Rattle.semantics.specs.declared.Mark.the-variants.{Open, In, Out}
+use Rattle.semantics.specs.declared.Mark.the-variants.{Open}
 use Rattle.semantics.specs.Families.{Values}
 use Rattle.semantics.specs.Markings.{at, marked, Agrees, Below, Step, Reaches, here, then, Settled, Drawn}
 use Rattle.semantics.specs.Programs.{Rule}

@@ -3,7 +3,7 @@ use mathlib.Core.Path.{_≡_, refl, sym, ap, subst, _∙_}
 use mathlib.Core.List.{List, [], _∷_}
 use mathlib.Core.Bool.{Bool, true, false, not, _&&_, _||_, Bool·beq}
 use mathlib.Core.Logic.{_⊎_, inl, inr, ⊎-elim}
-use Prim.Native.Nat.{ℕ, zero, suc, _<_}
+use Prim.Native.Nat.{ℕ, zero, suc}
 use native.Mathlib.Omega.{arith}
 use lib.ListN.{length}
 use Rattle.std.specs.Orderings.{Decides}
@@ -18,6 +18,7 @@ use Rattle.semantics.specs.Programs.{Program}
 use Rattle.semantics.specs.Rows.{has, Part, ProperPart, Precedes}
 use Rattle.semantics.specs.SmallTables.{Sole, InEvery}
 use Rattle.semantics.proofs.Lists.{all-at, all-from}
+use Rattle.semantics.proofs.Order.{at-once, later}
 
 -- Tests of truth values.
 decides-itself : (x : Bool) → Decides x (x ≡ true)
@@ -74,18 +75,14 @@ not-after (false ∷ s) (false ∷ t) = not-after s t
 
 behind-same-mark : (x : Bool) (s t : List Bool) → (t ≡ s) ⊎ Precedes s t → (x ∷ t ≡ x ∷ s) ⊎ Precedes (x ∷ s) (x ∷ t)
 behind-same-mark x s t (inl e) = inl (ap (λ r. x ∷ r) e)
-behind-same-mark x s t (inr p) = inr (record { at = suc (p .at); same = same; first = p .first; second = p .second })
-  where
-    same : (q : ℕ) → q < suc (p .at) → has (x ∷ s) q ≡ has (x ∷ t) q
-    same zero l = refl
-    same (suc q) l = p .same q (omega arith)
+behind-same-mark x s t (inr p) = inr (later x s t p)
 
 same-or-before : (s t : List Bool) → length t ≡ length s → not-after s t ≡ true → (t ≡ s) ⊎ Precedes s t
 same-or-before [] [] l h = inl refl
 same-or-before [] (y ∷ t) l h = absurd (omega arith)
 same-or-before (x ∷ s) [] l h = absurd (omega arith)
 same-or-before (true ∷ s) (true ∷ t) l h = behind-same-mark true s t (same-or-before s t (omega arith) h)
-same-or-before (true ∷ s) (false ∷ t) l h = inr (record { at = 0; same = λ q k. absurd (omega arith); first = refl; second = refl })
+same-or-before (true ∷ s) (false ∷ t) l h = inr (at-once s t)
 same-or-before (false ∷ s) (true ∷ t) l h = absurd (false≢true h)
 same-or-before (false ∷ s) (false ∷ t) l h = behind-same-mark false s t (same-or-before s t (omega arith) h)
 

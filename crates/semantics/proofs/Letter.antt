@@ -1,16 +1,15 @@
 -- The third step asked of open statements only comes to the same.
-use mathlib.Core.Path.{_≡_, refl, sym, ap, _∙_}
+use mathlib.Core.Path.{_≡_, sym, ap, _∙_}
 use mathlib.Core.List.{List}
 use mathlib.Core.Bool.{Bool, true, false, not}
 use mathlib.Core.Logic.{_⊎_, inl, inr, ⊎-elim}
 use Prim.Native.Nat.{ℕ}
 use Rattle.semantics.specs.declared.Mark.{Mark}
-use Rattle.semantics.specs.declared.Mark.the-variants.{Open, In, Out}
 use Rattle.semantics.specs.Families.{Values}
 use Rattle.semantics.specs.Markings.{at, marked, Broken, Forces}
 use Rattle.semantics.specs.Markings as by
 use Rattle.semantics.specs.Programs.{Rule}
-use Rattle.semantics.specs.Theorems.{ForcesOpen, fires, explains, chooses, blocks, unsupported, SameSteps, ByTheLetter}
+use Rattle.semantics.specs.Theorems.{ForcesOpen, fires, explains, chooses, blocks, unsupported, ByTheLetter}
 use Rattle.semantics.proofs.Marks.{open-unmarked, both-marked, cases-mark}
 
 not-twice : {v : Mark} (x : Bool) → v ≡ marked (not (not x)) → v ≡ marked x

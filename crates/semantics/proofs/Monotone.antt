@@ -1,5 +1,5 @@
 -- More marks keep what is certain, impossible, refuted and broken; below a settled marking they keep what is forced.
-use mathlib.Core.Path.{_≡_, refl, sym, subst}
+use mathlib.Core.Path.{_≡_, refl, subst}
 use mathlib.Core.List.{List, [], _∷_}
 use mathlib.Core.Bool.{Bool, true, false, not}
 use mathlib.Core.Logic.{_⊎_, inl, inr, ⊎-elim}
@@ -9,7 +9,7 @@ use lib.ListN.{length}
 use Rattle.std.specs.declared.option.Option.{Option}
 use Rattle.std.specs.declared.option.Option.the-variants.{Some, None}
 use Rattle.semantics.specs.declared.Mark.{Mark}
-use Rattle.semantics.specs.declared.Mark.the-variants.{Open, In, Out}
+use Rattle.semantics.specs.declared.Mark.the-variants.{In}
 use Rattle.semantics.specs.declared.Member.{Member}
 use Rattle.semantics.specs.AnswerSets.{weights}
 use Rattle.semantics.specs.Families.{Values}
@@ -17,7 +17,7 @@ use Rattle.semantics.specs.Lists.{Among, Nth}
 use Rattle.semantics.specs.Markings.{at, marked, Allows, Below, Bag, Attained, Between, Certain, Impossible, BodyCertain, Refuted, HeadOut, Broken, OneLeft, OthersOut, CertainButFor, Forces, fires, explains, chooses, blocks, unsupported, Settled}
 use Rattle.semantics.specs.Programs.{Aggregate, Rule}
 use Rattle.semantics.proofs.Lists.{among-nth, nth-same}
-use Rattle.semantics.proofs.Marks.{is-in, allows-in, both-marked, cases-mark, marked-inside}
+use Rattle.semantics.proofs.Marks.{is-in, allows-in, cases-mark}
 
 -- the weights that a row picks are a bag under every marking that the row agrees with
 pub bag-of-row : (m : List Mark) (f : ℕ → Bool) → ((q : ℕ) → Allows (at m q) (f q)) → (ms : List Member) → Bag m ms (weights f ms)

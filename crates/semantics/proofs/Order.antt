@@ -23,14 +23,14 @@ precedes-trans a b c p q = go (cases-lt (p .at) (q .at)) (cases-eq (p .at) (q .a
     go (inr l) (inr n) = record { at = q .at; same = same-below (q .at) (λ k h. omega arith) (λ k h. h); first = p .same (q .at) (omega arith) ∙ q .first; second = q .second }
 
 -- one more place in front
-later : (x : Bool) (a b : List Bool) → Precedes a b → Precedes (x ∷ a) (x ∷ b)
+pub later : (x : Bool) (a b : List Bool) → Precedes a b → Precedes (x ∷ a) (x ∷ b)
 later x a b p = record { at = suc (p .at); same = same; first = p .first; second = p .second }
   where
     same : (k : ℕ) → k < suc (p .at) → has (x ∷ a) k ≡ has (x ∷ b) k
     same zero l = refl
     same (suc k) l = p .same k (omega arith)
 
-at-once : (a b : List Bool) → Precedes (true ∷ a) (false ∷ b)
+pub at-once : (a b : List Bool) → Precedes (true ∷ a) (false ∷ b)
 at-once a b = record { at = 0; same = λ k l. absurd (omega arith); first = refl; second = refl }
 
 in-front : (x : Bool) (a b : List Bool) → (a ≡ b) ⊎ (Precedes a b ⊎ Precedes b a) → ((x ∷ a) ≡ (x ∷ b)) ⊎ (Precedes (x ∷ a) (x ∷ b) ⊎ Precedes (x ∷ b) (x ∷ a))

@@ -10,11 +10,11 @@ use Rattle.std.specs.declared.option.Option.{Option}
 use Rattle.std.specs.declared.option.Option.the-variants.{Some, None}
 use Rattle.std.proofs.shelf.Tests.{both-ways, not-true, and-parts, and-from, not-from-false}
 use Rattle.semantics.specs.declared.Mark.{Mark}
-use Rattle.semantics.specs.declared.Mark.the-variants.{Open, In, Out}
+use Rattle.semantics.specs.declared.Mark.the-variants.{In}
 use Rattle.semantics.specs.AnswerSets.{weights, passes, true-in, obeys-rule, AnswerSet, Supports}
 use Rattle.semantics.specs.Families.{Values}
 use Rattle.semantics.specs.Lists.{Among, Nth, all}
-use Rattle.semantics.specs.Markings.{at, marked, Agrees, Attained, Between, Certain, Impossible, literals, BodyCertain, Refuted, HeadOut, Broken, OneLeft, Forces, fires, explains, chooses, blocks, unsupported}
+use Rattle.semantics.specs.Markings.{at, Agrees, Attained, Between, Certain, Impossible, literals, BodyCertain, Refuted, HeadOut, Broken, OneLeft, Forces, fires, explains, chooses, blocks, unsupported}
 use Rattle.semantics.specs.Programs.{Aggregate, Rule, Program}
 use Rattle.semantics.specs.Rows.{has}
 use Rattle.semantics.proofs.AnswerSets.{head-of-obeyed, needs-of-itself, supported}

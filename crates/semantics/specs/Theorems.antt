@@ -2,18 +2,18 @@
 use mathlib.Core.Path.{_≡_}
 use mathlib.Core.List.{List}
 use mathlib.Core.Bool.{Bool, true, false, not}
-use mathlib.Core.Logic.{_≢_, _⊎_}
+use mathlib.Core.Logic.{_⊎_}
 use Prim.Native.Nat.{ℕ, _<_}
 use lib.ListN.{length}
 use Rattle.semantics.specs.declared.Finding.{Finding}
 use Rattle.semantics.specs.declared.Mark.{Mark}
-use Rattle.semantics.specs.declared.Mark.the-variants.{Open, In, Out}
+use Rattle.semantics.specs.declared.Mark.the-variants.{Open, In}
 use Rattle.semantics.specs.AnswerSets.{AnswerSet, Supports, Account, AgreesWith}
 use Rattle.semantics.specs.Families.{Values, Family, house, bench}
 use Rattle.semantics.specs.Lists.{Among}
-use Rattle.semantics.specs.Markings.{at, marked, found, noted, literals, Agrees, Below, BodyCertain, HeadOut, OneLeft, OthersOut, CertainButFor, Refuted, Broken, Forces, Step, Reaches, Settled, Drawn}
+use Rattle.semantics.specs.Markings.{at, marked, found, noted, literals, Agrees, Below, BodyCertain, HeadOut, OneLeft, OthersOut, CertainButFor, Refuted, Broken, Forces, Step, Reaches, Drawn}
 use Rattle.semantics.specs.Programs.{Rule, Program}
-use Rattle.semantics.specs.Rows.{has, ProperPart, Precedes}
+use Rattle.semantics.specs.Rows.{ProperPart, Precedes}
 
 -- where the row is an answer set, a rule supports the statement
 abbrev pub Supported : List Bool → ℕ → Type 0

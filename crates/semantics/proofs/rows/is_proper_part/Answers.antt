@@ -1,12 +1,10 @@
-use Prim.Native.Nat.{ℕ}
 use Rattle.semantics.proofs.AnswerSets.{antichain}
 use Rattle.semantics.proofs.Decisions.{part-throughout, same-throughout}
 use Rattle.semantics.proofs.rows.is_proper_part.Needs as need
 use Rattle.semantics.specs.Rows.{has}
 use Rattle.std.proofs.shelf.Tests.{cases-bool}
-use mathlib.Core.Bool.{true}
 use mathlib.Core.Logic.{⊎-elim}
-use mathlib.Core.Path.{_≡_, ap}
+use mathlib.Core.Path.{ap}
 
 pub returns : need.returns
 returns c =
