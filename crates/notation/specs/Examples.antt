@@ -2,7 +2,7 @@
 use Prim.Native.Nat.{ℕ}
 use Rattle.notation.specs.Shown.{newline, shown}
 use Rattle.notation.specs.Text.{rule-text}
-use Rattle.semantics.specs.Programs.{Aggregate, Rule}
+use Rattle.semantics.specs.Programs.{Rule}
 use Rattle.semantics.specs.SmallTables.{_weighs_, fact, over, rule, sum}
 use Rattle.semantics.specs.declared.Relation.the-variants.{AtLeast, Unequal}
 use Rattle.table.specs.TwoRules.{two-rules}

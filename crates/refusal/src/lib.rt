@@ -76,19 +76,29 @@ impl Refusal {
     pub fn layer(self) -> Layer
         ensures { λ r. ⌜ r ≡ layer-of self ⌝ }
     {
-        let number = self.number();
-        if number <= 6 {
-            Layer::Header
-        } else if number <= 11 {
-            Layer::Statements
-        } else if number <= 14 {
-            Layer::Rules
-        } else if number == 15 {
-            Layer::Literals
-        } else if number <= 19 {
-            Layer::Aggregates
-        } else {
-            Layer::Members
+        match self {
+            Refusal::TooShort
+            | Refusal::WrongFormat
+            | Refusal::WrongLength
+            | Refusal::CountTooLarge
+            | Refusal::WrongOffset
+            | Refusal::NamesNotLast => Layer::Header,
+            Refusal::WrongNameRun
+            | Refusal::StatementPadding
+            | Refusal::NamesUnfilled
+            | Refusal::NameByte
+            | Refusal::NameTwice => Layer::Statements,
+            Refusal::RuleCountTooLarge | Refusal::WrongRuleRun | Refusal::RulesUnfilled =>
+                Layer::Rules,
+            Refusal::UnknownLiteral => Layer::Literals,
+            Refusal::UnknownRelation
+            | Refusal::WrongMemberRun
+            | Refusal::AggregatePadding
+            | Refusal::MembersUnfilled => Layer::Aggregates,
+            Refusal::UnknownMember
+            | Refusal::MemberPadding
+            | Refusal::WeightTooLarge
+            | Refusal::MemberTwice => Layer::Members,
         }
     }
 }

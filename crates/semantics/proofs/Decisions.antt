@@ -1,5 +1,6 @@
 -- What a loop over a row, a marking or findings has decided, where it leaves and at its end.
-use Prim.Native.Nat.{ℕ, zero, suc, _<_, _≤_}
+use Prim.Native.Nat.{ℕ, _<_, _≤_}
+use Rattle.semantics.proofs.Lists.{among-place}
 use Rattle.semantics.proofs.Marks.{marked-inside, marked-once, open-unmarked}
 use Rattle.semantics.specs.Lists.{Among}
 use Rattle.semantics.specs.Markings.{Agrees, Allows, Below, at, marked}
@@ -11,7 +12,7 @@ use Rattle.std.proofs.shelf.Tests.{both-ways, cases-eq, cases-lt, false≢true,
 use Rattle.std.specs.Orderings.{Decides}
 use lib.ListN.{getD, length}
 use mathlib.Core.Bool.{Bool, true, false, not}
-use mathlib.Core.List.{List, [], _∷_}
+use mathlib.Core.List.{List}
 use mathlib.Core.Logic.{_⊎_, inl, inr, ⊎-elim}
 use mathlib.Core.Path.{_≡_, refl, sym, ap, subst, _∙_}
 use native.Mathlib.Omega.{arith}
@@ -46,14 +47,7 @@ below-throughout m n k l h q x e = h q (omega (arith, marked-inside m q x e)) x 
 
 -- Elements of a list, by their places.
 pub throughout : {X : Type 0} (xs : List X) (P : X → Type 0) (n : ℕ) (d : X) → length xs ≤ n → ((k : ℕ) → k < n → P (getD xs k d)) → (x : X) → Among x xs → P x
-throughout [] P n d l h x i = absurd i
-throughout (y ∷ ys) P n d l h x (inl e) = subst P e (h 0 (omega arith))
-throughout (y ∷ ys) P n d l h x (inr i) = throughout ys P (length ys) d (omega arith) (λ k m. h (suc k) (omega arith)) x i
-
-pub among-at : {X : Type 0} (xs : List X) (k : ℕ) (d : X) → k < length xs → Among (getD xs k d) xs
-among-at [] k d l = absurd (omega arith)
-among-at (y ∷ ys) zero d l = inl refl
-among-at (y ∷ ys) (suc k) d l = inr (among-at ys k d (omega arith))
+throughout xs P n d l h x i = let p = among-place xs x i in subst P (p .2 d) (h (p .0) (omega (arith, p .1)))
 
 -- The first difference of two rows decides.
 pub first-difference : (a b : List Bool) (q : ℕ) → ((k : ℕ) → k < q → has a k ≡ has b k) → (has a q ≡ has b q → ⊥) → Decides (has a q) (Precedes a b)

@@ -3,7 +3,9 @@ use mathlib.Core.Path.{_≡_, refl, sym, ap, _∙_}
 use mathlib.Core.List.{List, [], _∷_}
 use mathlib.Core.Bool.{Bool, true, false}
 use mathlib.Core.Logic.{_⊎_, inl, inr, ⊎-elim}
-use Prim.Native.Nat.{ℕ, zero, suc}
+use Prim.Native.Nat.{ℕ, zero, suc, _<_}
+use lib.ListN.{getD, length}
+use native.Mathlib.Omega.{arith}
 use Rattle.std.proofs.shelf.Tests.{and-parts, and-from, and-cases, or-cases, or-parts, true≢false, false≢true}
 use Rattle.semantics.specs.Lists.{Among, Nth, all, any}
 
@@ -47,3 +49,14 @@ module _ {X : Type 0} where
   nth-same [] i x y a b = absurd a
   nth-same (z ∷ zs) zero x y a b = sym a ∙ b
   nth-same (z ∷ zs) (suc i) x y a b = nth-same zs i x y a b
+
+  -- what stands in a list stands at a place of it, and the other way round
+  pub among-place : (xs : List X) (x : X) → Among x xs → (i : ℕ) × (i < length xs) × ((d : X) → getD xs i d ≡ x)
+  among-place [] x m = absurd m
+  among-place (y ∷ ys) x (inl e) = (zero, omega arith, λ d. e)
+  among-place (y ∷ ys) x (inr m) = let p = among-place ys x m in (suc (p .0), omega (arith, p .1), p .2)
+
+  pub among-at : (xs : List X) (k : ℕ) (d : X) → k < length xs → Among (getD xs k d) xs
+  among-at [] k d l = absurd (omega arith)
+  among-at (y ∷ ys) zero d l = inl refl
+  among-at (y ∷ ys) (suc k) d l = inr (among-at ys k d (omega arith))

@@ -52,7 +52,7 @@ pub data ForcesOpen (value : Values) (rules : List Rule) (m : List Mark) : ℕ �
   blocks : (r : Rule) (q : ℕ) (x : Bool) → at m q ≡ Open → Among r rules → HeadOut m r → CertainButFor value m r q x → ForcesOpen value rules m q (not x)
   unsupported : (p : ℕ) → ((r : Rule) → Among r rules → Among p (r .head) → Refuted value m r) → ForcesOpen value rules m p false
 
--- to the letter or not, the same open statements are marked, and of markings that are not broken the same are settled
+-- to the letter or not, the same is wanted of open statements and, where the marking is not broken, against a mark
 pub record SameSteps (value : Values) (rules : List Rule) (m : List Mark) : Type 0 where
   pub loosen : (q : ℕ) (x : Bool) → ForcesOpen value rules m q x → Forces value rules m q x
   pub open-same : (q : ℕ) (x : Bool) → at m q ≡ Open → Forces value rules m q x → ForcesOpen value rules m q x

@@ -49,14 +49,8 @@ fn is_kept(mark: Mark, by: Mark) -> bool
 {
     match mark {
         Mark::Open => true,
-        Mark::In => match by {
-            Mark::In => true,
-            _ => false,
-        },
-        Mark::Out => match by {
-            Mark::Out => true,
-            _ => false,
-        },
+        Mark::In => matches!(by, Mark::In),
+        Mark::Out => matches!(by, Mark::Out),
     }
 }
 

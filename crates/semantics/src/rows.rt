@@ -8,6 +8,7 @@ ghost use mathlib.Core.Path.{_≡_};
 
 // Sets of statements as rows of marks: place q is true where statement q is in the set.
 
+// The mark at a place; past the end, false.
 fn place(row: &[bool], statement: usize) -> bool
     ensures { λ r. ⌜ r ≡ has (now (row .entry)) statement ⌝ }
 {
@@ -18,6 +19,7 @@ fn place(row: &[bool], statement: usize) -> bool
     }
 }
 
+// Whether two marks differ.
 fn differ(x: bool, y: bool) -> bool
     ensures { λ r. ⌜ (r ≡ true → x ≡ y → ⊥) ⌝ ∗ ⌜ (r ≡ false → x ≡ y) ⌝ }
 {
@@ -63,6 +65,7 @@ pub fn is_proper_part(part: &[bool], whole: &[bool]) -> bool
     smaller
 }
 
+// Whether a row has what was found absent, or lacks what was found present.
 fn contradicts(finding: Finding, row: &[bool]) -> bool
     ensures { λ r. ⌜ (r ≡ true → has (now (row .entry)) (finding .statement) ≡ finding .present → ⊥) ⌝ ∗ ⌜ (r ≡ false → has (now (row .entry)) (finding .statement) ≡ finding .present) ⌝ }
 {

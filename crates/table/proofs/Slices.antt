@@ -1,5 +1,6 @@
 -- Parts of lists: their lengths, what stands in them, and parts put together.
-use Prim.Native.Nat.{ℕ, zero, suc, _+_, _-_, _<_, _≤_}
+use Prim.Native.Nat.{ℕ, _+_, _-_, _<_, _≤_}
+use Rattle.semantics.proofs.Lists.{among-place}
 use Rattle.semantics.specs.Lists.{Among}
 use Rattle.std.proofs.shelf.Counted.{getD-map-counting, length-map-counting}
 use Rattle.std.proofs.shelf.Lists.{drop-drop, drop-take, getD-drop, getD-take, length-drop, length-take, take-take}
@@ -7,8 +8,7 @@ use Rattle.std.specs.Iters.{counting}
 use Rattle.table.specs.Contents.{slice}
 use lib.ListN.{length, getD, take, drop}
 use lib.Seq.{take-add}
-use mathlib.Core.List.{List, [], _∷_, _++_, map}
-use mathlib.Core.Logic.{inl, inr}
+use mathlib.Core.List.{List, _++_, map}
 use mathlib.Core.Path.{_≡_, sym, ap, _∙_}
 use native.Mathlib.Nat.{add-assoc}
 use native.Mathlib.Omega.{arith}
@@ -35,12 +35,7 @@ module _ {X : Type 0} where
       ∙ take-take n (m - first) (drop first (drop start xs)) (omega arith)
       ∙ ap (take n) (drop-drop first start xs)
 
-  -- what stands in a list stands at a place of it
-  among-place : (xs : List X) (x : X) → Among x xs → (i : ℕ) × (i < length xs) × ((d : X) → getD xs i d ≡ x)
-  among-place [] x m = absurd m
-  among-place (y ∷ ys) x (inl e) = (zero, omega arith, λ d. e)
-  among-place (y ∷ ys) x (inr m) = let p = among-place ys x m in (suc (p .0), omega (arith, p .1), p .2)
-
+  -- what stands in a slice stands at a place of the list
   pub among-slice : (first n : ℕ) (xs : List X) (x : X) → Among x (slice first n xs) → (k : ℕ) × (k < n) × ((d : X) → getD xs (first + k) d ≡ x)
   among-slice first n xs x m =
       let p = among-place (slice first n xs) x m in

@@ -1,5 +1,6 @@
-use Rattle.semantics.proofs.Decisions.{among-at, refuted-by, shown-by, throughout}
+use Rattle.semantics.proofs.Decisions.{refuted-by, shown-by, throughout}
 use Rattle.semantics.proofs.Findings.{noted-agrees}
+use Rattle.semantics.proofs.Lists.{among-at}
 use Rattle.semantics.proofs.rows.agrees_with.Choices.{none}
 use Rattle.semantics.proofs.rows.agrees_with.Needs as need
 use borrow.Author.Count.{below-more}
