@@ -1,3 +1,5 @@
+#![tactic(auto)]
+
 ghost use Rattle.bench.specs.Tallies.{Tallies};
 ghost use Rattle.semantics.specs.Families.{bench};
 ghost use Rattle.semantics.proofs.Families.{bench_lawful};

@@ -1,3 +1,5 @@
+#![tactic(auto)]
+
 mod demands;
 mod drawing;
 mod explaining;

@@ -1,3 +1,5 @@
+#![tactic(auto)]
+
 mod family;
 mod reading;
 mod weights;

@@ -1,3 +1,5 @@
+#![tactic(auto)]
+
 mod aggregates;
 pub mod check;
 mod fault;

@@ -15,7 +15,7 @@ pub(crate) trait Records {
 
 // The first fault of the records 0 to n - 1.
 pub(crate) fn check_each<R: Records>(records: &R, bytes: &[u8], n: u16) -> Result<(), Fault>
-    ensures { result ≡ verdict (each n (found records.now bytes.now)) tt }
+    ensures { result ≡ verdict (each n (R.found records.now bytes.now)) tt }
 {
     for i in 0..n {
         records.check_one(bytes, i)?;

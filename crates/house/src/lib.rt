@@ -1,3 +1,5 @@
+#![tactic(auto)]
+
 ghost use Rattle.house.specs.Tallies.{Tallies};
 ghost use Rattle.semantics.specs.Families.{house};
 ghost use Rattle.semantics.proofs.Families.{house_lawful};

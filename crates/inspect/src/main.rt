@@ -1,3 +1,5 @@
+#![tactic(auto)]
+
 use std::io;
 use std::io::{Read, Write};
 

@@ -1,3 +1,5 @@
+#![tactic(auto)]
+
 mod theorems;
 
 ghost use Rattle.inspection.specs.Inspection.{ForcedText, Inspected, drawing_text};

@@ -1,3 +1,5 @@
+#![tactic(auto)]
+
 mod aggregates;
 mod bodies;
 mod literals;

@@ -1,3 +1,5 @@
+#![tactic(auto)]
+
 ghost use Rattle.format.specs.Faults.{unless, verdict};
 ghost use Rattle.kinds.specs.Lacking.{KindsKnown, lacking};
 ghost use Rattle.refusal.specs.declared.Refusal.TheVariants.{LackingKind};

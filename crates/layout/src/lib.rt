@@ -1,2 +1,4 @@
+#![tactic(auto)]
+
 pub mod area;
 pub mod bytes;

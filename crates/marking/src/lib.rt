@@ -1,3 +1,5 @@
+#![tactic(auto)]
+
 mod marking;
 mod marks;
 mod size;

@@ -1,3 +1,5 @@
+#![tactic(auto)]
+
 mod marks;
 mod pieces;
 mod report;

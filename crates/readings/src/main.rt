@@ -1,3 +1,5 @@
+#![tactic(auto)]
+
 use bench::Bench;
 use family::{Family, Reading};
 use house::House;

@@ -1,3 +1,5 @@
+#![tactic(auto)]
+
 ghost use Rattle.refusal.specs.Refusals.{layer_of, number_of};
 ghost use Rattle.std.specs.Prelude.{◌≡◌};
 

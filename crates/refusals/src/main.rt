@@ -1,3 +1,5 @@
+#![tactic(auto)]
+
 use format::check::check;
 use std::alloc::AllocError;
 

@@ -1,3 +1,5 @@
+#![tactic(auto)]
+
 pub mod markings;
 pub mod rows;
 mod theorems;

@@ -1,3 +1,5 @@
+#![tactic(auto)]
+
 mod reading;
 pub mod table;
 mod theorems;

@@ -9,6 +9,6 @@ returns-then-takes c =
     let e = simp to_z-of_z at c.from.ensures in
     let t = (simp to_z-of_z at c.takes.ensures).0 c.if-takes.true in
     record {
-      added = λ k s o h _. simp e at (simp to_z-of_z at (c.put-sure.ensures k s o h));
+      added = λ k s o h _. simp e at (simp to_z-of_z at (c.put_sure.ensures k s o h));
       kept = λ k s o h no. absurd (no (record { room = omega arith; small = t.1 }));
     }

@@ -10,5 +10,5 @@ returns-in-0 c = λ k s o h. rw (sym h.kind ∙ c.in-0.is) (c.spreads.ensures k 
 pub returns-in-1 : goal.returns-in-1
 returns-in-1 c = λ k s o h. rw (sym h.kind ∙ c.in-1.is) (odd_reads s o _ (rw h.open_count at c.odds.ensures.some) (rw (h.sure_count, h.open_count) at c.odds.ensures.none))
 
-pub returns-in-default : goal.returns-in-default
-returns-in-default c = λ k s o h. nothing_reads _ s o (λ v. two_families.bench_family.lacking k v (omega arith))
+pub returns-in_default : goal.returns-in_default
+returns-in_default c = λ k s o h. nothing_reads _ s o (λ v. two_families.bench_family.lacking k v (omega arith))

@@ -8,6 +8,6 @@ returns g c =
     let value = g.F.Family.value c.args.family.now in
     let p = program (contents_of c.args.table.now) in
     record {
-      drawn = rw c.start.ensures.noted at c.draw-from.ensures.drawn;
-      accounts = accounts_kept value p c.args.findings.now _ c.start.ensures.agreed c.draw-from.result c.draw-from.ensures.answers;
+      drawn = rw c.start.ensures.noted at c.draw_from.ensures.drawn;
+      accounts = accounts_kept value p c.args.findings.now _ c.start.ensures.agreed c.draw_from.result c.draw_from.ensures.answers;
     }

@@ -26,8 +26,8 @@ returns g c =
     let table = contents_of c.args.table.now in
     let m = marks_of c.args.marking.now in
     let r = get_or table.rules c.args.i no_rule in
-    let body = c.judge-body-body.result in
+    let body = c.judge_body-body.result in
     record {
-      applied = λ l. c.meet.ensures value (program table) r (rw c.demand_of.ensures (demanded value m r (program table) (among_at table.rules c.args.i no_rule l) body c.judge-head.result c.judge-body-body.ensures c.judge-head.ensures));
-      counted = λ l. counted_standing value table.rules c.args.i m c.args.supports.now.by l c.add-heads.new.self.by (body_standing value m r body c.in-default.not-Refuted c.judge-body-body.ensures) (c.add-heads.ensures r.head c.rule.ensures.head);
+      applied = λ l. c.meet.ensures value (program table) r (rw c.demand_of.ensures (demanded value m r (program table) (among_at table.rules c.args.i no_rule l) body c.judge_head.result c.judge_body-body.ensures c.judge_head.ensures));
+      counted = λ l. counted_standing value table.rules c.args.i m c.args.supports.now.by l c.add_heads.new.self.by (body_standing value m r body c.in_default.not-Refuted c.judge_body-body.ensures) (c.add_heads.ensures r.head c.rule.ensures.head);
     }

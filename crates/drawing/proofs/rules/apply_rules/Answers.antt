@@ -10,13 +10,13 @@ use Rattle.std.proofs.Common.{◌≡◌, length, subst, arith}
 pub loop-i-init : goal.loop-i-init
 loop-i-init g c = λ counted standing. record { derived = derived_same _ _ _; counted = counted; passed = λ e j l. absurd (omega arith); standing = λ e. standing }
 
-pub returns-in-err-apply-rule : goal.returns-in-err-apply-rule
-returns-in-err-apply-rule g c = λ counted standing.
+pub returns-in_err-apply_rule : goal.returns-in_err-apply_rule
+returns-in_err-apply_rule g c = λ counted standing.
     let value = g.F.Family.value c.args.family.now in
     let p = program (contents_of c.args.table.now) in
     let inv = c.loop-i.invariant counted standing in
-    rules_failed value p _ _ _ c.from-residual.result c.from-residual.ensures.0
-    (failed_before value p _ _ inv.derived (c.in-err-apply-rule.ensures.applied (omega (arith, c.loop-i-test.true))))
+    rules_failed value p _ _ _ c.from_residual.result c.from_residual.ensures.0
+    (failed_before value p _ _ inv.derived (c.in_err-apply_rule.ensures.applied (omega (arith, c.loop-i-test.true))))
 
 pub loop-i-preserved : goal.loop-i-preserved
 loop-i-preserved g c = λ counted standing.
@@ -24,9 +24,9 @@ loop-i-preserved g c = λ counted standing.
     let p = program (contents_of c.args.table.now) in
     let l = c.loop-i-test.true in
     let inv = c.loop-i.invariant counted standing in
-    let step = c.in-ok-apply-rule.ensures in
+    let step = c.in_ok-apply_rule.ensures in
     let made = step.applied (omega arith) in
-    rules_next value p c.loop-i.i (marks_of c.args.marking.now) (marks_of c.loop-i.marking) (marks_of c.apply-rule.new.marking) c.loop-i.supports.by c.apply-rule.new.supports.by inv made.0 made.1 (step.counted (omega arith))
+    rules_next value p c.loop-i.i (marks_of c.args.marking.now) (marks_of c.loop-i.marking) (marks_of c.apply_rule.new.marking) c.loop-i.supports.by c.apply_rule.new.supports.by inv made.0 made.1 (step.counted (omega arith))
 
 pub returns : goal.returns
 returns g c = λ counted standing.

@@ -10,16 +10,16 @@ use Rattle.table.specs.Tables.{contents_of}
 pub loop-statement-init : goal.loop-statement-init
 loop-statement-init c = λ value counted. (derived_same value _ _, λ e s q l. absurd (omega arith))
 
-pub returns-in-err-apply-statement : goal.returns-in-err-apply-statement
-returns-in-err-apply-statement c = λ value counted.
+pub returns-in_err-apply_statement : goal.returns-in_err-apply_statement
+returns-in_err-apply_statement c = λ value counted.
     let p = program (contents_of c.args.table.now) in
     let by = c.args.supports.now.by in
     let long = c.args.supports.now.long in
     let few = c.statements-statement-end.ensures.few in
     let inv = c.loop-statement.invariant value counted in
-    applied_failed value p _ _ c.from-residual.result _ c.from-residual.ensures.0
+    applied_failed value p _ _ c.from_residual.result _ c.from_residual.ensures.0
     (failed_before value p _ _ inv.0
-    (c.in-err-apply-statement.ensures value (support_there value p by (marks_of c.args.marking.now) (marks_of c.loop-statement.marking) c.loop-statement.statement c.of.result c.of.ensures (omega (arith, c.loop-statement-test.true)) counted inv.0)))
+    (c.in_err-apply_statement.ensures value (support_there value p by (marks_of c.args.marking.now) (marks_of c.loop-statement.marking) c.loop-statement.statement c.of.result c.of.ensures (omega (arith, c.loop-statement-test.true)) counted inv.0)))
 
 pub loop-statement-preserved : goal.loop-statement-preserved
 loop-statement-preserved c = λ value counted.
@@ -32,7 +32,7 @@ loop-statement-preserved c = λ value counted.
     let q = c.loop-statement.statement in
     let inv = c.loop-statement.invariant value counted in
     let there = support_there value p by m n q c.of.result c.of.ensures (omega (arith, c.loop-statement-test.true)) counted inv.0 in
-    statements_next value p by m n q c.of.result c.of.ensures (omega (arith, c.loop-statement-test.true)) (marks_of c.apply-statement.new.marking) (Ok tt) inv.0 inv.1 (c.in-ok-apply-statement.ensures value there)
+    statements_next value p by m n q c.of.result c.of.ensures (omega (arith, c.loop-statement-test.true)) (marks_of c.apply_statement.new.marking) (Ok tt) inv.0 inv.1 (c.in_ok-apply_statement.ensures value there)
 
 pub returns : goal.returns
 returns c = λ value counted.

@@ -17,5 +17,5 @@ returns-in-2 c = λ k s o h. rw (sym h.kind ∙ c.in-2.is) (c.leasts.ensures k s
 pub returns-in-3 : goal.returns-in-3
 returns-in-3 c = λ k s o h. rw (sym h.kind ∙ c.in-3.is) (c.greatests.ensures k s o h)
 
-pub returns-in-default : goal.returns-in-default
-returns-in-default c = λ k s o h. nothing_reads _ s o (λ v. two_families.house_family.lacking k v (omega arith))
+pub returns-in_default : goal.returns-in_default
+returns-in_default c = λ k s o h. nothing_reads _ s o (λ v. two_families.house_family.lacking k v (omega arith))

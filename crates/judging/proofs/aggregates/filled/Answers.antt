@@ -20,8 +20,8 @@ loop-k-preserved g c = (
       let a = c.member-member.result in
       let fits : SFits w32 a.weight = search rules in
       let room = room_left m all c.args.members.first c.args.members.end c.loop-k.k _ a t l inside few (c.member-member.ensures.limits (omega arith)) in
-      with_member (g.F.Family.tallies c.args.family.now c.add-marked.new.tally c.args.kind) m all c.args.members.end c.loop-k.k (omega arith) l inside a c.member-member.ensures.value c.mark.result c.mark.ensures
-      ((simp to_z-of_z at c.add-marked.ensures) _ _ _ (c.loop-k.invariant.1 inside few) room),
+      with_member (g.F.Family.tallies c.args.family.now c.add_marked.new.tally c.args.kind) m all c.args.members.end c.loop-k.k (omega arith) l inside a c.member-member.ensures.value c.mark.result c.mark.ensures
+      ((simp to_z-of_z at c.add_marked.ensures) _ _ _ (c.loop-k.invariant.1 inside few) room),
 )
 
 pub returns : goal.returns

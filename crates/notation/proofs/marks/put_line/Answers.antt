@@ -4,7 +4,7 @@ use Rattle.notation.proofs.marks.put_line.Goals as goal
 
 pub returns : goal.returns
 returns c =
-    adds_same (line_shown _ _ c.args.statement c.mark.ensures c.mark-word.ensures c.name.ensures)
-    (then c.in-ok-put.ensures
-    (then c.in-ok-put-2.ensures
-    (then c.in-ok-put-3.ensures c.put-4.ensures)))
+    adds_same (line_shown _ _ c.args.statement c.mark.ensures c.mark_word.ensures c.name.ensures)
+    (then c.in_ok-put.ensures
+    (then c.in_ok-put-2.ensures
+    (then c.in_ok-put-3.ensures c.put-4.ensures)))

@@ -6,7 +6,7 @@ use Rattle.std.proofs.Common.{arith}
 pub loop-i-preserved : goal.loop-i-preserved
 loop-i-preserved c =
     adds_same (rules_text_more _ _ c.loop-i.i (omega arith))
-    (then c.loop-i.invariant (then c.in-ok-put-rule.ensures c.in-ok-put.ensures))
+    (then c.loop-i.invariant (then c.in_ok-put_rule.ensures c.in_ok-put.ensures))
 
 pub returns : goal.returns
 returns c = adds_same (rules_text_all _ _ c.loop-i.i (omega arith)) c.loop-i.invariant

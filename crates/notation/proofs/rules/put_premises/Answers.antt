@@ -5,5 +5,5 @@ use Rattle.table.specs.Tables.{contents_of}
 
 pub returns : goal.returns
 returns c =
-    adds_same (premises_row (contents_of c.args.table.now) c.args.rule _ _ c.body-body.ensures c.sign-between.ensures)
-    (then c.in-ok-put-joined.ensures (then c.in-ok-put.ensures c.put-joined-2.ensures))
+    adds_same (premises_row (contents_of c.args.table.now) c.args.rule _ _ c.body-body.ensures c.sign_between.ensures)
+    (then c.in_ok-put_joined.ensures (then c.in_ok-put.ensures c.put_joined-2.ensures))

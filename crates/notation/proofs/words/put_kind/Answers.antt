@@ -12,7 +12,7 @@ other_kind (suc (suc zero)) z e h = absurd (omega arith)
 other_kind (suc (suc (suc zero))) z e h = absurd (omega arith)
 other_kind (suc (suc (suc (suc k)))) z e h = ap (λ y. codes "kind" ++ signed_decimal y) e
 
-pub returns-in-ok-put : goal.returns-in-ok-put
-returns-in-ok-put c =
+pub returns-in_ok-put : goal.returns-in_ok-put
+returns-in_ok-put c =
     adds_same (other_kind c.args.kind _ (omega (arith, ints)) (omega arith))
-    (then c.in-ok-put.ensures c.put-number.ensures)
+    (then c.in_ok-put.ensures c.put_number.ensures)

@@ -4,9 +4,9 @@ use Rattle.semantics.proofs.markings.is_below.Goals as goal
 use Rattle.std.proofs.lemmas.Bool.{false≢true}
 use Rattle.std.proofs.Common.{◌∙◌}
 
-pub returns-then-not-is-kept : goal.returns-then-not-is-kept
-returns-then-not-is-kept c = record {
-  decided = refuted_by _ (λ b. false≢true ((kept_decides _ _ _ c.if-not-is-kept.ensures).1 (λ x e. c.mark-at.ensures ∙ b c.loop-q.q x e)));
+pub returns-then-not-is_kept : goal.returns-then-not-is_kept
+returns-then-not-is_kept c = record {
+  decided = refuted_by _ (λ b. false≢true ((kept_decides _ _ _ c.if-not-is_kept.ensures).1 (λ x e. c.mark_at.ensures ∙ b c.loop-q.q x e)));
   leads = leads _ _;
   once = drawn_once _ _;
 }

@@ -14,8 +14,8 @@ opens b r t e f = e ∙ (ap is_ok f ∙ ok_accepted b)
 
 pub returns : goal.returns
 returns c =
-    let same = opens c.args.bytes.now _ _ c.is-ok.ensures.value c.check.ensures in
-    let are_bytes : Bytes c.args.bytes.now = λ k. let fits = c.type-inv.bytes k in omega arith in
+    let same = opens c.args.bytes.now _ _ c.is_ok.ensures.value c.check.ensures in
+    let are_bytes : Bytes c.args.bytes.now = λ k. let fits = c.type_inv.bytes k in omega arith in
     record {
       value = same;
       limits = λ h. within_limits c.args.bytes.now are_bytes (sym same ∙ h);

@@ -2,4 +2,4 @@ use Rattle.judging.proofs.literals.Literals.and.Goals as goal
 use Rattle.std.proofs.Common.{sym, ◌∙◌}
 
 pub returns-in-Open : goal.returns-in-Open
-returns-in-Open c = λ m ls e h. c.and-open.ensures m ls (sym c.in-Open.is ∙ e) h
+returns-in-Open c = λ m ls e h. c.and_open.ensures m ls (sym c.in-Open.is ∙ e) h

@@ -14,6 +14,6 @@ pub loop-q-preserved : goal.loop-q-preserved
 loop-q-preserved c =
     let m = marks_of c.args.self.now in
     let t = c.loop-q-test.true in
-    let more = c.open-in-count.ensures ∙ ap open_in c.mark.ensures in
+    let more = c.open_in-count.ensures ∙ ap open_in c.mark.ensures in
     let i = c.loop-q.invariant in
     (counted_next m c.loop-q.q c.loop-q.count _ (omega arith) (omega (arith, i.1)) i.0 more, counted_within m c.loop-q.q c.loop-q.count _ (omega arith) i.1 more)

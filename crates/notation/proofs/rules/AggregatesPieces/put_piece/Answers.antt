@@ -7,10 +7,10 @@ use Rattle.std.proofs.Common.{w32, rules}
 pub returns : goal.returns
 returns c =
     let aggregate = c.aggregate-aggregate in
-    adds_same (aggregate_shown _ _ _ _ _ aggregate.ensures c.relation-sign.ensures (to_z-of_z w32 aggregate.result.bound (search rules)))
-    (then c.in-ok-put-kind.ensures
-    (then c.in-ok-put.ensures
-    (then c.in-ok-put-joined.ensures
-    (then c.in-ok-put-2.ensures
-    (then c.in-ok-put-3.ensures
-    (then c.in-ok-put-4.ensures c.put-number.ensures))))))
+    adds_same (aggregate_shown _ _ _ _ _ aggregate.ensures c.relation_sign.ensures (to_z-of_z w32 aggregate.result.bound (search rules)))
+    (then c.in_ok-put_kind.ensures
+    (then c.in_ok-put.ensures
+    (then c.in_ok-put_joined.ensures
+    (then c.in_ok-put-2.ensures
+    (then c.in_ok-put-3.ensures
+    (then c.in_ok-put-4.ensures c.put_number.ensures))))))

@@ -6,4 +6,4 @@ use Rattle.table.specs.Tables.{contents_of}
 pub returns : goal.returns
 returns c =
     adds_same (negated_piece (contents_of c.args.self.now.table) _ _ _ _ c.if-k-self.false c.literal.ensures.value c.name-name.ensures)
-    (then c.in-ok-put.ensures c.put-3.ensures)
+    (then c.in_ok-put.ensures c.put-3.ensures)

@@ -9,4 +9,4 @@ pub returns : goal.returns
 returns c =
     let member = c.member-member in
     adds_same (member_shown (contents_of c.args.self.now.0) _ c.args.k _ _ member.ensures.value c.name.ensures (to_z-of_z w32 member.result.weight (search rules)))
-    (then c.in-ok-put.ensures (then c.in-ok-put-2.ensures c.put-number.ensures))
+    (then c.in_ok-put.ensures (then c.in_ok-put-2.ensures c.put_number.ensures))

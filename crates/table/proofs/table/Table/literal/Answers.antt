@@ -7,7 +7,7 @@ pub returns-in-Some : goal.returns-in-Some
 returns-in-Some c =
     let p = c.in-Some.ensures in
     let known = literal_known _ p.0 c.args.k c.in-Some.at p.1 p.2 in
-    record { value = c.read-literal.ensures ∙ literal_there _ p.0 c.args.k c.in-Some.at p.1 p.2; known = λ _. rw c.read-literal.ensures known }
+    record { value = c.read_literal.ensures ∙ literal_there _ p.0 c.args.k c.in-Some.at p.1 p.2; known = λ _. rw c.read_literal.ensures known }
 
 pub returns-in-None : goal.returns-in-None
 returns-in-None c =

@@ -7,8 +7,8 @@ pub returns-in-Some : goal.returns-in-Some
 returns-in-Some c =
     let p = c.in-Some.ensures in
     record {
-      value = c.read-member.ensures ∙ member_there _ p.0 c.args.k c.in-Some.at p.1 p.2;
-      limits = λ _. rw c.read-member.ensures (member_known _ p.0 c.args.k c.in-Some.at p.1 p.2);
+      value = c.read_member.ensures ∙ member_there _ p.0 c.args.k c.in-Some.at p.1 p.2;
+      limits = λ _. rw c.read_member.ensures (member_known _ p.0 c.args.k c.in-Some.at p.1 p.2);
     }
 
 pub returns-in-None : goal.returns-in-None
