@@ -23,8 +23,8 @@ fn apply_rule<F: Family>(
     supports: &mut Supports,
     i: usize,
 ) -> Result<(), Clash>
-    ensures applied { i < length (contents_of table.now).rules → Applied (value family.now) (program (contents_of table.now)) (marks_of marking.old) (marks_of marking.new) result (RulePassed (value family.now) (marks_of marking.old) (slice_index_or (contents_of table.now).rules i no_rule)) }
-    ensures counted { i < length (contents_of table.now).rules → CountedMore (value family.now) (contents_of table.now).rules i (marks_of marking.old) supports.old.by supports.new.by }
+    ensures applied { i < length (contents_of table.now).rules → Applied (F.value family.now) (program (contents_of table.now)) (marks_of marking.old) (marks_of marking.new) result (RulePassed (F.value family.now) (marks_of marking.old) (slice_index_or (contents_of table.now).rules i no_rule)) }
+    ensures counted { i < length (contents_of table.now).rules → CountedMore (F.value family.now) (contents_of table.now).rules i (marks_of marking.old) supports.old.by supports.new.by }
 {
     let body = judge_body(table, family, marking, i);
     if let Body::Refuted = body {
@@ -41,7 +41,7 @@ pub(crate) fn apply_rules<F: Family>(
     marking: &mut Marking,
     supports: &mut Supports,
 ) -> Result<(), Clash>
-    ensures { Counted (value family.now) (contents_of table.now).rules 0 (marks_of marking.old) supports.old.by → AllStanding (value family.now) (contents_of table.now).rules (marks_of marking.old) supports.old.by → RulesDone (value family.now) (program (contents_of table.now)) (marks_of marking.old) (marks_of marking.new) supports.new.by result }
+    ensures { Counted (F.value family.now) (contents_of table.now).rules 0 (marks_of marking.old) supports.old.by → AllStanding (F.value family.now) (contents_of table.now).rules (marks_of marking.old) supports.old.by → RulesDone (F.value family.now) (program (contents_of table.now)) (marks_of marking.old) (marks_of marking.new) supports.new.by result }
 {
     for i in 0..table.rules() {
         apply_rule(table, family, marking, supports, i)?;

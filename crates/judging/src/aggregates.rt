@@ -16,7 +16,7 @@ use table::table::{Run, Table};
 // Adds the weight of a member with this mark: as a sure one where it is in, as an open one where it is open, and not
 // at all where it is out.
 fn add_marked<F: Family>(family: &F, tally: &mut F::Tally, mark: Mark, weight: i32)
-    ensures { (k : ℕ) (s o : List ℤ) → tallies family.now tally.old k s o → Takes s o weight → tallies family.now tally.new k (if_in mark weight s) (if_open mark weight o) }
+    ensures { (k : ℕ) (s o : List ℤ) → F.tallies family.now tally.old k s o → Takes s o weight → F.tallies family.now tally.new k (if_in mark weight s) (if_open mark weight o) }
 {
     match mark {
         Mark::In => family.add_sure(tally, weight),
@@ -34,7 +34,7 @@ fn filled<F: Family>(
     kind: u8,
     members: Run,
 ) -> F::Tally
-    ensures { (ms : List Member) → Covers (contents_of table.now).members ms members → members.end - members.first ≤ 128 → tallies family.now result kind (sure_weights (marks_of marking.now) ms) (open_weights (marks_of marking.now) ms) }
+    ensures { (ms : List Member) → Covers (contents_of table.now).members ms members → members.end - members.first ≤ 128 → F.tallies family.now result kind (sure_weights (marks_of marking.now) ms) (open_weights (marks_of marking.now) ms) }
 {
     let mut tally = family.start(kind);
     for k in (members.first..members.end).rev() {
@@ -51,7 +51,7 @@ fn filled<F: Family>(
 
 // Whether aggregate j is certain under the marking, or impossible.
 pub fn judge_aggregate<F: Family>(table: &Table, family: &F, marking: &Marking, j: usize) -> Verdict
-    ensures { Judges result (Certain (value family.now) (marks_of marking.now) (slice_index_or (contents_of table.now).aggregates j no_aggregate)) (Impossible (value family.now) (marks_of marking.now) (slice_index_or (contents_of table.now).aggregates j no_aggregate)) }
+    ensures { Judges result (Certain (F.value family.now) (marks_of marking.now) (slice_index_or (contents_of table.now).aggregates j no_aggregate)) (Impossible (F.value family.now) (marks_of marking.now) (slice_index_or (contents_of table.now).aggregates j no_aggregate)) }
 {
     let aggregate = table.aggregate(j);
     let tally = filled(table, family, marking, aggregate.kind, aggregate.members);

@@ -37,7 +37,7 @@ fn both(all: Verdict, next: Verdict) -> Verdict
 
 // Whether all aggregates of a run are certain, or one is impossible.
 fn judge_aggregates<F: Family>(table: &Table, family: &F, marking: &Marking, run: Run) -> Verdict
-    ensures { (gs : List Aggregate) → Covers (contents_of table.now).aggregates gs run → Judges result (AllCertain (value family.now) (marks_of marking.now) gs) (SomeImpossible (value family.now) (marks_of marking.now) gs) }
+    ensures { (gs : List Aggregate) → Covers (contents_of table.now).aggregates gs run → Judges result (AllCertain (F.value family.now) (marks_of marking.now) gs) (SomeImpossible (F.value family.now) (marks_of marking.now) gs) }
 {
     let mut all = Verdict::Certain;
     for j in (run.first..run.end).rev() {
@@ -71,7 +71,7 @@ fn body_of(literals: Literals, aggregates: Verdict) -> Body
 
 // What a marking says of the body of rule i.
 pub fn judge_body<F: Family>(table: &Table, family: &F, marking: &Marking, i: usize) -> Body
-    ensures { BodyIs (value family.now) (marks_of marking.now) (slice_index_or (contents_of table.now).rules i no_rule) result }
+    ensures { BodyIs (F.value family.now) (marks_of marking.now) (slice_index_or (contents_of table.now).rules i no_rule) result }
 {
     let rule = table.rule(i);
     let literals = body_literals(table, marking, rule);

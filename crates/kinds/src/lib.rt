@@ -26,8 +26,8 @@ fn demand_kind(kind: u8, kinds: u16, place: usize) -> Result<(), Fault>
 
 // Refuses the first aggregate of the table whose kind the family lacks, at the place of that kind.
 pub fn check_kinds<F: Family>(table: &Table, family: &F) -> Result<(), Fault>
-    ensures first { result ≡ verdict (lacking (F.Family.size family.now) table.now.bytes.now) tt }
-    ensures known { Decides (is_ok result) (KindsKnown (F.Family.size family.now) (contents_of table.now).aggregates) }
+    ensures first { result ≡ verdict (lacking (F.size family.now) table.now.bytes.now) tt }
+    ensures known { Decides (is_ok result) (KindsKnown (F.size family.now) (contents_of table.now).aggregates) }
 {
     let kinds = family.kinds();
     for j in 0..table.aggregates() {

@@ -22,7 +22,7 @@ pub(crate) fn put_joined<P: Pieces>(
     pieces: &P,
     run: Run,
 ) -> Result<(), AllocError>
-    ensures { Adds result out.old out.new (joined separator.now (map (piece pieces.now) (places run))) }
+    ensures { Adds result out.old out.new (joined separator.now (map (P.piece pieces.now) (places run))) }
 {
     for k in run.first..run.end {
         if k > run.first {
