@@ -1,5 +1,5 @@
 -- The demand of a rule is rightful; and rules and statements that are all passed leave nothing to do.
-use Rattle.std.proofs.Common.{◌≡◌, ℕ, ◌<◌, Bool, true, false, not, ◌⊎◌, List, length, sym, refl, ap, ◌∙◌, subst, inl, inr, ⊎_elim}
+use Rattle.std.proofs.Common.{◌≡◌, ℕ, ◌<◌, Bool, true, false, not, List, length, sym, refl, ap, ◌∙◌, subst, inl, inr, ⊎_elim}
 use Rattle.drawing.specs.Applying.{IsMarked}
 use Rattle.drawing.specs.Demands.{Demanded, demand_of}
 use Rattle.drawing.specs.Passing.{RulePassed, StatementPassed}

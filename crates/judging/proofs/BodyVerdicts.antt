@@ -12,7 +12,7 @@ use Rattle.semantics.proofs.Lists.{among_either, among_left, among_right}
 use Rattle.semantics.proofs.Marks.{both_marked, open_unmarked}
 use Rattle.semantics.specs.Families.{Values}
 use Rattle.semantics.specs.Lists.{Among}
-use Rattle.semantics.specs.Markings.{BodyCertain, Certain, CertainButFor, Impossible, Refuted, at, literals}
+use Rattle.semantics.specs.Markings.{BodyCertain, Certain, CertainButFor, Impossible, Refuted, literals}
 use Rattle.semantics.specs.Programs.{Aggregate, Rule}
 use Rattle.semantics.specs.declared.Mark.{Mark}
 use Rattle.table.proofs.Tails.{tail, tail_more}

@@ -1,5 +1,5 @@
 -- What a marking says of the body of a rule.
-use Rattle.std.specs.Prelude.{◌≡◌, ℕ, Bool, true, false, List, ◌++◌, ◌≢◌}
+use Rattle.std.specs.Prelude.{ℕ, Bool, true, false, List, ◌++◌, ◌≢◌}
 use Rattle.family.specs.declared.reading.Verdict.{Verdict}
 use Rattle.family.specs.declared.reading.Verdict.TheVariants.{Certain as Sure, Impossible as Never, Neither as Unknown}
 use Rattle.judging.specs.Literals.{IsOpen, as_literals}

@@ -1,5 +1,5 @@
 -- More marks keep what is certain, impossible, refuted and broken; where nothing that is in is forced out they keep what is forced.
-use Rattle.std.proofs.Common.{◌≡◌, ℕ, ◌<◌, Bool, true, false, not, ◌⊎◌, List, [], ◌∷◌, length, ℤ, Some, None, Option, refl, subst, inl, inr, ⊎_elim}
+use Rattle.std.proofs.Common.{◌≡◌, ℕ, ◌<◌, Bool, true, false, not, List, [], ◌∷◌, length, ℤ, Some, None, Option, refl, subst, inl, inr, ⊎_elim}
 use Rattle.semantics.specs.declared.Mark.{Mark}
 use Rattle.semantics.specs.declared.Mark.TheVariants.{In}
 use Rattle.semantics.specs.declared.Member.{Member}

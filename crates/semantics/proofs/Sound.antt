@@ -1,5 +1,5 @@
 -- What a step wants holds in every answer set that agrees with the marking.
-use Rattle.std.proofs.Common.{◌≡◌, ℕ, Bool, true, false, not, ◌⊎◌, List, ℤ, Some, None, Option, sym, refl, ap, ◌∙◌, subst, inl, inr, ⊎_elim}
+use Rattle.std.proofs.Common.{◌≡◌, ℕ, Bool, true, false, not, List, ℤ, Some, None, Option, sym, refl, ap, ◌∙◌, subst, inl, inr, ⊎_elim}
 use lib.Signed.{≤ℤ_refl}
 use Rattle.std.proofs.lemmas.Bool.{both_ways, not-true, and_parts, and_from, not_from_false}
 use Rattle.semantics.specs.declared.Mark.{Mark}

@@ -20,7 +20,7 @@ fn place(row: &[bool], statement: usize) -> bool
 
 // Whether two marks differ.
 fn differ(x: bool, y: bool) -> bool
-    ensures { ((result ≡ true → x ≢ y)) × ((result ≡ false → x ≡ y)) }
+    ensures { (result ≡ true → x ≢ y) × (result ≡ false → x ≡ y) }
 {
     x != y
 }
@@ -66,7 +66,7 @@ pub fn is_proper_part(part: &[bool], whole: &[bool]) -> bool
 
 // Whether a row has what was found absent, or lacks what was found present.
 fn contradicts(finding: Finding, row: &[bool]) -> bool
-    ensures { ((result ≡ true → has row.now finding.statement ≢ finding.present)) × ((result ≡ false → has row.now finding.statement ≡ finding.present)) }
+    ensures { (result ≡ true → has row.now finding.statement ≢ finding.present) × (result ≡ false → has row.now finding.statement ≡ finding.present) }
 {
     differ(place(row, finding.statement as usize), finding.present)
 }
