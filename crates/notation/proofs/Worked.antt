@@ -2,6 +2,7 @@
 use Rattle.format.specs.Check.{accepted}
 use Rattle.format.specs.Faults.{each}
 use Rattle.notation.specs.Examples.{Examples}
+use Rattle.notation.specs.MarkExamples.{MarkExamples}
 use Rattle.notation.specs.Shown.{shown}
 use Rattle.std.specs.Fmt.{digits}
 use Rattle.table.specs.Contents.{aggregates_held, contents, literals_held, members_held, names_held, rules_held}
@@ -9,4 +10,7 @@ use Rattle.std.proofs.Common.{refl}
 
 pub worked : Examples
 unfolding accepted digits each shown aggregates_held contents literals_held members_held names_held rules_held
-worked = record { full = refl; alone = refl; no_head = refl; other_kind = refl; nothing = refl; two = refl; short = refl; marks = refl }
+worked = record { full = refl; alone = refl; no_head = refl; other_kind = refl; nothing = refl; two = refl; short = refl }
+
+pub marks_worked : MarkExamples
+marks_worked = record { each_mark = refl }

@@ -1,11 +1,9 @@
--- Rules, a table and marks with the text that they should have.
+-- Rules and a table with the text that they should have.
 use Rattle.std.specs.Prelude.{◌≡◌, ℕ, List, [], ◌∷◌, ◌++◌, pos, negsuc, codes}
-use Rattle.notation.specs.Marks.{marks_text}
 use Rattle.notation.specs.Shown.{newline, shown}
 use Rattle.notation.specs.Text.{rule_text}
 use Rattle.semantics.specs.Programs.{Rule}
 use Rattle.semantics.specs.SmallTables.{◌weighs◌, fact, over, rule, sum}
-use Rattle.semantics.specs.declared.Mark.TheVariants.{In, Open, Out}
 use Rattle.semantics.specs.declared.Relation.TheVariants.{AtLeast, Unequal}
 use Rattle.table.specs.TwoRules.{two_rules}
 
@@ -23,4 +21,3 @@ pub record Examples : Type 0 where
   pub nothing : rule_text letters (rule [] [] []) ≡ codes ":- ."
   pub two : shown two_rules ≡ codes "statements 2, rules 2, literals 2, aggregates 1, members 1, name bytes 2" ++ (newline ++ (codes "a." ++ (newline ++ (codes "b :- count{a:1} > 0." ++ newline))))
   pub short : shown [] ≡ codes "refused 1 at 0" ++ newline
-  pub marks : marks_text (codes "a" ∷ codes "b" ∷ codes "c" ∷ []) (In ∷ Out ∷ Open ∷ []) ≡ codes "in a" ++ (newline ++ (codes "out b" ++ (newline ++ (codes "open c" ++ newline))))

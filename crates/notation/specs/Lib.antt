@@ -3,3 +3,4 @@ pub mod Pieces
 pub mod Shown
 pub mod Marks
 pub mod Examples
+pub mod MarkExamples

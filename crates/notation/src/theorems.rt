@@ -1,6 +1,12 @@
 ghost use Rattle.notation.specs.Examples.{Examples};
+ghost use Rattle.notation.specs.MarkExamples.{MarkExamples};
 
-// Some rules, a table, a refusal and some marks have the text that is expected of them.
+// Some rules, a table and a refusal have the text that is expected of them.
 fn examples()
     ensures { Examples }
+{}
+
+// And so have some marks.
+fn mark_examples()
+    ensures { MarkExamples }
 {}

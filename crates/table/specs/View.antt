@@ -74,7 +74,7 @@ member_read b at = record { statement = byte_at b at; weight = whole_at b (at + 
 abbrev pub count_held : List ℕ → Area → ℕ
 count_held b area = cond (accepted b) (count b area) 0
 
--- the place of record i of an area, or none past the last one
+-- the place of record i of an area, or none past the last one and in a table that is not opened
 abbrev pub Placed : List ℕ → Area → ℕ → Option ℕ → Type 0
 Placed b area i r = MatchOption r (cond (accepted b) (count b area) 0 ≤ i) (λ at. (accepted b ≡ true) × (i < count b area) × (at ≡ offset b area + size area * i))
 
