@@ -70,16 +70,16 @@ rules_failed value p m n by (Ok _) e f = absurd (false≢true e)
 rules_failed value p m n by (Err _) e f = f
 
 module _ (value : Values) (p : Program) (by : List Support) (m n : List Mark) where
-  abbrev Rules : ℕ
-  Rules = length p.rules
+  abbrev rule_count : ℕ
+  rule_count = length p.rules
 
   -- statement q, after those before it
   module _ (q : ℕ) (s : Support) (e : s ≡ supported_by by q) (l : q < length by) where
     abbrev PassedTo : ℕ → List Mark → Type 0
     PassedTo k i = AllStanding value p.rules i by → (o : ℕ) → o < k → StatementPassed value p.rules i o
 
-    pub support_there : Counted value p.rules Rules m by → Derived value p m n → SupportIs value p.rules Rules n q s
-    support_there c d = subst (SupportIs value p.rules Rules n q) (sym e) (support_above value p.rules Rules m n q (supported_by by q) d.adds (c q l))
+    pub support_there : Counted value p.rules rule_count m by → Derived value p m n → SupportIs value p.rules rule_count n q s
+    support_there c d = subst (SupportIs value p.rules rule_count n q) (sym e) (support_above value p.rules rule_count m n q (supported_by by q) d.adds (c q l))
 
     pub statements_next : (after : List Mark) (r : Result (Unit {0}) Clash) → Derived value p m n → (n ≡ m → PassedTo q m) → Applied value p n after r (Standing value p.rules n q s → StatementPassed value p.rules n q) → Applied value p m after r (PassedTo (q + 1) m)
     statements_next after r d h a =
