@@ -1,5 +1,6 @@
 -- What a test of each place of a row, a marking or findings decides.
 use Rattle.std.proofs.Common.{cond, ◌≡◌, ℕ, zero, suc, ◌+◌, ◌||◌, ◌<◌, ◌≤◌, Bool, true, false, not, ◌⊎◌, List, [], ◌∷◌, length, get_or, Decides, sym, refl, ap, ◌∙◌, subst, inl, inr, ⊎_elim, arith}
+use Rattle.semantics.proofs.Lists.{all_at, all_from}
 use Rattle.semantics.proofs.Marks.{marked_inside, marked_once, open_unmarked}
 use Rattle.semantics.specs.Lists.{Among}
 use Rattle.semantics.specs.Markings.{Agrees, Allows, Below, at, marked}
@@ -16,12 +17,7 @@ refuted_by P n = ((λ e. absurd (false≢true e)), (λ p. absurd (n p)))
 
 -- Where a test decides a fact of each element, passing everywhere decides the fact of all that are in the list.
 pub all_decides : {X : Type 0} (p : X → Bool) (P : X → Type 0) → ((x : X) → Decides (p x) (P x)) → (xs : List X) → Decides (list_all p xs) ((x : X) → Among x xs → P x)
-all_decides p P d [] = ((λ _ x i. absurd i), (λ _. refl))
-all_decides p P d (y ∷ ys) =
-    let rest = all_decides p P d ys in (
-      (λ h x i. ⊎_elim (λ e. subst P e ((d y).0 (and_parts _ _ h).0)) (λ j. rest.0 (and_parts _ _ h).1 x j) i),
-      (λ h. and_from _ _ ((d y).1 (h y (inl refl))) (rest.1 (λ x i. h x (inr i)))),
-    )
+all_decides p P d xs = ((λ h x i. (d x).0 (all_at p xs x h i)), (λ h. all_from p xs (λ x i. (d x).1 (h x i))))
 
 -- One finding.
 abbrev pub confirmed : List Bool → Finding → Bool
