@@ -18,7 +18,7 @@ use Rattle.std.proofs.lemmas.Bool.{eqb-true, leb-true}
 
 none_empty : (fs : List Fault) → none fs ≡ true → fs ≡ []
 none_empty [] e = refl
-none_empty (f ∷ fs) e = let z : ◌≡◌ {A = ℕ} 0 1 = cc in absurd (omega arith)
+none_empty (f ∷ fs) e = cc
 
 no_faults : (b : List ℕ) → accepted b ≡ true → faults b ≡ []
 unfolding accepted
@@ -26,11 +26,11 @@ no_faults b e = none_empty (faults b) e
 
 pub holds : (t : Bool) (r : Refusal) (p : ℕ) → unless t r p ≡ [] → t ≡ true
 holds true r p e = refl
-holds false r p e = let z : ◌≡◌ {A = ℕ} 0 1 = cc in absurd (omega arith)
+holds false r p e = cc
 
 pub fails : (t : Bool) (r : Refusal) (p : ℕ) → when t r p ≡ [] → t ≡ false
 fails false r p e = refl
-fails true r p e = let z : ◌≡◌ {A = ℕ} 0 1 = cc in absurd (omega arith)
+fails true r p e = cc
 
 -- the parts of the list of faults, each empty
 pub record Clean (b : List ℕ) : Type 0 where
@@ -77,12 +77,20 @@ clean b ok =
 
 -- the six parts of a list of faults of the areas
 every_part : (f : Area → List Fault) → every_area f ≡ [] → (a : Area) → f a ≡ []
-every_part f e Statements = (parts (f Statements) _ e).0
-every_part f e Rules = (parts (f Rules) _ (parts (f Statements) _ e).1).0
-every_part f e Literals = (parts (f Literals) _ (parts (f Rules) _ (parts (f Statements) _ e).1).1).0
-every_part f e Aggregates = (parts (f Aggregates) _ (parts (f Literals) _ (parts (f Rules) _ (parts (f Statements) _ e).1).1).1).0
-every_part f e Members = (parts (f Members) _ (parts (f Aggregates) _ (parts (f Literals) _ (parts (f Rules) _ (parts (f Statements) _ e).1).1).1).1).0
-every_part f e Names = (parts (f Members) _ (parts (f Aggregates) _ (parts (f Literals) _ (parts (f Rules) _ (parts (f Statements) _ e).1).1).1).1).1
+every_part f e a =
+    let past_statements = parts (f Statements) _ e in
+    let past_rules = parts (f Rules) _ past_statements.1 in
+    let past_literals = parts (f Literals) _ past_rules.1 in
+    let past_aggregates = parts (f Aggregates) _ past_literals.1 in
+    let past_members = parts (f Members) _ past_aggregates.1 in
+    elim a as (λ v. f v ≡ []) [
+      | Statements ↦ past_statements.0
+      | Rules ↦ past_rules.0
+      | Literals ↦ past_literals.0
+      | Aggregates ↦ past_aggregates.0
+      | Members ↦ past_members.0
+      | Names ↦ past_members.1
+    ]
 
 module _ (b : List ℕ) (c : Clean b) where
   abbrev of_header : ((unless (leb 28 (length b)) TooShort (length b) ≡ []) × (unless (eqb (word_at b 0) 1) WrongFormat 0 ≡ []) × (unless (eqb (word_at b 2) (length b)) WrongLength 2 ≡ []) × (every_area (count_faults b) ≡ []) × (every_area (offset_faults b) ≡ []) × (unless (eqb (area_end b Names) (length b)) NamesNotLast 24 ≡ []))
