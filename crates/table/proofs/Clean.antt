@@ -1,14 +1,14 @@
 -- What is known of bytes that have no fault, record by record.
-use Rattle.std.proofs.Common.{◌≡◌, ℕ, ◌<◌, ◌≤◌, Bool, true, false, eqb, leb, List, [], ◌∷◌, length, refl, arith}
+use Rattle.std.proofs.Common.{◌≡◌, ℕ, ◌<◌, ◌≤◌, Bool, true, false, eqb, leb, List, [], ◌∷◌, length, refl}
 use Rattle.format.proofs.Verdicts.{each_clean, parts}
-use Rattle.format.specs.Aggregates.{aggregate_faults, all_aggregate_faults, first_member, member_count, member_faults, members_end}
+use Rattle.format.specs.Aggregates.{aggregate_faults, all_aggregate_faults, member_count, member_faults, members_end}
 use Rattle.layout.specs.Bytes.{word_at}
 use Rattle.format.specs.Check.{accepted, faults, none}
 use Rattle.format.specs.Faults.{each, unless, when}
 use Rattle.format.specs.Header.{area_end, count_faults, end_before, every_area, header_faults, offset_faults}
 use Rattle.layout.specs.Areas.{count, most, offset}
-use Rattle.format.specs.Rules.{aggregates_end, all_literal_faults, all_rule_faults, first_aggregate, first_literal, literal_faults, literals_end, rule_faults}
-use Rattle.format.specs.Statements.{all_statement_faults, name_byte_faults, name_start, names_end, same_name_faults, statement_faults}
+use Rattle.format.specs.Rules.{aggregates_end, all_literal_faults, all_rule_faults, literal_faults, literals_end, rule_faults}
+use Rattle.format.specs.Statements.{all_statement_faults, name_byte_faults, names_end, same_name_faults, statement_faults}
 use Rattle.layout.specs.declared.area.Area.{Area}
 use Rattle.layout.specs.declared.area.Area.TheVariants.{Statements, Rules, Literals, Aggregates, Members, Names}
 use Rattle.refusal.specs.declared.Fault.{Fault}
@@ -116,28 +116,3 @@ module _ (b : List ℕ) (c : Clean b) where
 
   pub areas_end : area_end b Names ≡ length b
   areas_end = eqb-true _ _ (holds _ _ _ of_header.5)
-
-name_follows : (b : List ℕ) (i : ℕ) → statement_faults b i ≡ [] → name_start b i ≡ names_end b i
-name_follows b i e = grind (arith, holds, parts)
-
-literals_follow : (b : List ℕ) (i : ℕ) → rule_faults b i ≡ [] → first_literal b i ≡ literals_end b i
-literals_follow b i e = grind (arith, holds, parts)
-
-aggregates_follow : (b : List ℕ) (i : ℕ) → rule_faults b i ≡ [] → first_aggregate b i ≡ aggregates_end b i
-aggregates_follow b i e = grind (arith, holds, parts)
-
-members_follow : (b : List ℕ) (j : ℕ) → aggregate_faults b j ≡ [] → first_member b j ≡ members_end b j
-members_follow b j e = grind (arith, holds, parts)
-
-module _ (b : List ℕ) (c : Clean b) where
-  pub name_joined : (i : ℕ) → i < count b Statements → name_start b i ≡ names_end b i
-  name_joined i l = name_follows b i (c.statement i l)
-
-  pub literal_joined : (i : ℕ) → i < count b Rules → first_literal b i ≡ literals_end b i
-  literal_joined i l = literals_follow b i (c.rule i l)
-
-  pub aggregate_joined : (i : ℕ) → i < count b Rules → first_aggregate b i ≡ aggregates_end b i
-  aggregate_joined i l = aggregates_follow b i (c.rule i l)
-
-  pub member_joined : (j : ℕ) → j < count b Aggregates → first_member b j ≡ members_end b j
-  member_joined j l = members_follow b j (c.aggregate j l)

@@ -1,5 +1,5 @@
 -- What bytes without faults hold is within the limits of the format.
-use Rattle.std.proofs.Common.{◌≡◌, ℕ, ◌+◌, ◌<◌, ◌≤◌, Bool, true, false, cond, List, [], ◌∷◌, ◌++◌, length, get_or, ℤ, pos, negsuc, ◌≤ℤ◌, sym, refl, ap, ◌∙◌, add_assoc, arith}
+use Rattle.std.proofs.Common.{◌≡◌, ℕ, ◌+◌, ◌<◌, ◌≤◌, Bool, true, false, cond, List, [], ◌∷◌, length, get_or, ℤ, pos, negsuc, ◌≤ℤ◌, sym, refl, ap, ◌∙◌, add_assoc, arith}
 use Rattle.format.specs.Aggregates.{aggregate_at, first_member, member_count, weight_fits}
 use Rattle.layout.specs.Bytes.{byte_at}
 use Rattle.format.specs.Check.{accepted}
