@@ -113,6 +113,7 @@ const NO_MEMBER: Member = Member {
     weight: 0,
 };
 
+// What a record is read as where the type is another crate's, so that no From stands for it here.
 fn read_literal(literal: Record) -> u16
     ensures { result ≡ byte_at literal.entry.bytes.now literal.entry.at }
 {
