@@ -2,7 +2,6 @@ ghost use Rattle.std.specs.Prelude.{ℕ, ◌-◌, ◌≤◌, List, ℤ, slice_in
 ghost use Rattle.family.specs.Bags.{Takes};
 ghost use Rattle.family.specs.Readings.{Judges};
 ghost use Rattle.judging.specs.Weights.{if_in, if_open, open_weights, sure_weights};
-ghost use Rattle.marking.specs.Marks.{marks_of};
 ghost use Rattle.semantics.specs.Markings.{Certain, Impossible};
 ghost use Rattle.semantics.specs.declared.Member.{Member};
 ghost use Rattle.table.specs.Tables.{contents_of};
@@ -34,7 +33,7 @@ fn filled<F: Family>(
     kind: u8,
     members: Run,
 ) -> F::Tally
-    ensures { (ms : List Member) → Covers (contents_of table.now).members ms members → members.end - members.first ≤ 128 → F.tallies family.now result kind (sure_weights (marks_of marking.now) ms) (open_weights (marks_of marking.now) ms) }
+    ensures { (ms : List Member) → Covers (contents_of table.now).members ms members → members.end - members.first ≤ 128 → F.tallies family.now result kind (sure_weights marking.now ms) (open_weights marking.now ms) }
 {
     let mut tally = family.start(kind);
     for k in (members.first..members.end).rev() {
@@ -51,7 +50,7 @@ fn filled<F: Family>(
 
 // Whether aggregate j is certain under the marking, or impossible.
 pub fn judge_aggregate<F: Family>(table: &Table, family: &F, marking: &Marking, j: usize) -> Verdict
-    ensures { Judges result (Certain (F.value family.now) (marks_of marking.now) (slice_index_or (contents_of table.now).aggregates j no_aggregate)) (Impossible (F.value family.now) (marks_of marking.now) (slice_index_or (contents_of table.now).aggregates j no_aggregate)) }
+    ensures { Judges result (Certain (F.value family.now) marking.now (slice_index_or (contents_of table.now).aggregates j no_aggregate)) (Impossible (F.value family.now) marking.now (slice_index_or (contents_of table.now).aggregates j no_aggregate)) }
 {
     let aggregate = table.aggregate(j);
     let tally = filled(table, family, marking, aggregate.kind, aggregate.members);

@@ -1,7 +1,6 @@
 ghost use Rattle.family.specs.Readings.{Judges};
 ghost use Rattle.judging.specs.Bodies.{AllCertain, BodyIs, SomeImpossible, body_literals, body_of, both};
 ghost use Rattle.judging.specs.Literals.{LiteralsAre};
-ghost use Rattle.marking.specs.Marks.{marks_of};
 ghost use Rattle.semantics.specs.Programs.{Aggregate, Rule};
 ghost use Rattle.table.specs.Tables.{contents_of};
 ghost use Rattle.table.specs.View.{Covers, ShowsRule, no_rule};
@@ -37,7 +36,7 @@ fn both(all: Verdict, next: Verdict) -> Verdict
 
 // Whether all aggregates of a run are certain, or one is impossible.
 fn judge_aggregates<F: Family>(table: &Table, family: &F, marking: &Marking, run: Run) -> Verdict
-    ensures { (gs : List Aggregate) → Covers (contents_of table.now).aggregates gs run → Judges result (AllCertain (F.value family.now) (marks_of marking.now) gs) (SomeImpossible (F.value family.now) (marks_of marking.now) gs) }
+    ensures { (gs : List Aggregate) → Covers (contents_of table.now).aggregates gs run → Judges result (AllCertain (F.value family.now) marking.now gs) (SomeImpossible (F.value family.now) marking.now gs) }
 {
     let mut all = Verdict::Certain;
     for j in (run.first..run.end).rev() {
@@ -50,7 +49,7 @@ fn judge_aggregates<F: Family>(table: &Table, family: &F, marking: &Marking, run
 
 // What a marking says of the positive and the negative statements of a rule.
 fn body_literals(table: &Table, marking: &Marking, rule: RuleView) -> Literals
-    ensures { (g : Rule) → ShowsRule (contents_of table.now) g rule → LiteralsAre (marks_of marking.now) (body_literals g) result }
+    ensures { (g : Rule) → ShowsRule (contents_of table.now) g rule → LiteralsAre marking.now (body_literals g) result }
 {
     let negatives = judge_literals(table, marking, rule.negative, false, Literals::Met);
     judge_literals(table, marking, rule.positive, true, negatives)
@@ -71,7 +70,7 @@ fn body_of(literals: Literals, aggregates: Verdict) -> Body
 
 // What a marking says of the body of rule i.
 pub fn judge_body<F: Family>(table: &Table, family: &F, marking: &Marking, i: usize) -> Body
-    ensures { BodyIs (F.value family.now) (marks_of marking.now) (slice_index_or (contents_of table.now).rules i no_rule) result }
+    ensures { BodyIs (F.value family.now) marking.now (slice_index_or (contents_of table.now).rules i no_rule) result }
 {
     let rule = table.rule(i);
     let literals = body_literals(table, marking, rule);

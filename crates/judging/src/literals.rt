@@ -1,7 +1,6 @@
 ghost use Rattle.std.specs.Prelude.{◌≡◌, ℕ, false, List, ◌∷◌, ◌++◌, slice_index_or};
 ghost use Rattle.judging.specs.Literals.{LiteralsAre, as_literals};
 ghost use Rattle.judging.specs.declared.literals.Literal.{Literal};
-ghost use Rattle.marking.specs.Marks.{marks_of};
 ghost use Rattle.semantics.specs.Markings.{at};
 ghost use Rattle.semantics.specs.declared.Mark.{Mark};
 ghost use Rattle.table.specs.Tables.{contents_of};
@@ -79,7 +78,7 @@ pub(crate) fn judge_literals(
     present: bool,
     before: Literals,
 ) -> Literals
-    ensures { (qs : List ℕ) (ls : List Literal) → Covers (contents_of table.now).literals qs run → LiteralsAre (marks_of marking.now) ls before → LiteralsAre (marks_of marking.now) (as_literals present qs ++ ls) result }
+    ensures { (qs : List ℕ) (ls : List Literal) → Covers (contents_of table.now).literals qs run → LiteralsAre marking.now ls before → LiteralsAre marking.now (as_literals present qs ++ ls) result }
 {
     let mut all = before;
     for k in (run.first..run.end).rev() {
@@ -91,7 +90,7 @@ pub(crate) fn judge_literals(
 
 // What a marking says of the head of rule i, that its statements be out.
 pub fn judge_head(table: &Table, marking: &Marking, i: usize) -> Literals
-    ensures { LiteralsAre (marks_of marking.now) (as_literals false (slice_index_or (contents_of table.now).rules i no_rule).head) result }
+    ensures { LiteralsAre marking.now (as_literals false (slice_index_or (contents_of table.now).rules i no_rule).head) result }
 {
     judge_literals(table, marking, table.rule(i).head, false, Literals::Met)
 }

@@ -1,6 +1,5 @@
 use Rattle.judging.proofs.Filling.{room_left, with_member}
 use Rattle.judging.proofs.aggregates.filled.Goals as goal
-use Rattle.marking.specs.Marks.{marks_of}
 use Rattle.std.proofs.lemmas.Int.{to_z-of_z}
 use Rattle.table.proofs.Tails.{tail_all, tail_none}
 use Rattle.table.specs.Tables.{contents_of}
@@ -14,7 +13,7 @@ loop-k-preserved g c = (
   (λ h. omega (arith, c.loop-k-test.true)),
   λ inside few.
       let all = (contents_of c.args.table.now).members in
-      let m = marks_of c.args.marking.now in
+      let m = c.args.marking.now in
       let t = c.loop-k-test.true in
       let l = c.loop-k.auto.k in
       let a = c.member-member.result in

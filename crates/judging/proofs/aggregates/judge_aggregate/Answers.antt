@@ -2,7 +2,6 @@ use Rattle.family.specs.Readings.{Reads}
 use Rattle.judging.proofs.Verdicts.{judged, reading_ordered}
 use Rattle.judging.proofs.aggregates.judge_aggregate.Goals as goal
 use Rattle.judging.specs.Weights.{open_weights, sure_weights}
-use Rattle.marking.specs.Marks.{marks_of}
 use Rattle.std.proofs.lemmas.Int.{ints, to_z-of_z}
 use Rattle.table.specs.Tables.{contents_of}
 use Rattle.table.specs.View.{no_aggregate}
@@ -12,7 +11,7 @@ pub returns : goal.returns
 returns g c =
     let value = g.F.Family.value c.args.family.now in
     let lawful = g.met.F.Family.lawful c.args.family.now in
-    let m = marks_of c.args.marking.now in
+    let m = c.args.marking.now in
     let a = get_or (contents_of c.args.table.now).aggregates c.args.j no_aggregate in
     let shows = c.aggregate-aggregate.ensures in
     let tallied = c.filled-tally.ensures a.members shows.members shows.few in

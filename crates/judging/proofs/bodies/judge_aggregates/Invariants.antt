@@ -2,7 +2,6 @@ use Rattle.std.proofs.Common.{◌≤◌, length}
 use Rattle.family.specs.Readings.{Judges}
 use Rattle.judging.proofs.bodies.judge_aggregates.Given as goal
 use Rattle.judging.specs.Bodies.{AllCertain, SomeImpossible}
-use Rattle.marking.specs.Marks.{marks_of}
 use Rattle.table.proofs.Tails.{tail}
 use Rattle.table.specs.Tables.{contents_of}
 
@@ -11,5 +10,5 @@ abbrev pub invariant-loop-j : goal.invariant-loop-j
 invariant-loop-j g l =
     (l.j-start ≤ l.initial.j → l.j-start ≤ l.j)
     × (l.initial.j ≤ length (contents_of l.table).aggregates → Judges l.all
-    (AllCertain (g.F.Family.value l.family) (marks_of l.marking) (tail (contents_of l.table).aggregates l.initial.j l.j))
-    (SomeImpossible (g.F.Family.value l.family) (marks_of l.marking) (tail (contents_of l.table).aggregates l.initial.j l.j)))
+    (AllCertain (g.F.Family.value l.family) l.marking (tail (contents_of l.table).aggregates l.initial.j l.j))
+    (SomeImpossible (g.F.Family.value l.family) l.marking (tail (contents_of l.table).aggregates l.initial.j l.j)))

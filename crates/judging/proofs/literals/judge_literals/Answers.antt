@@ -1,6 +1,5 @@
 use Rattle.judging.proofs.LiteralRuns.{with_literal}
 use Rattle.judging.proofs.literals.judge_literals.Goals as goal
-use Rattle.marking.specs.Marks.{marks_of}
 use Rattle.table.proofs.Tails.{tail_all, tail_none}
 use Rattle.table.specs.Tables.{contents_of}
 use Rattle.std.proofs.Common.{arith}
@@ -13,7 +12,7 @@ loop-k-preserved c = (
   (λ h. omega (arith, c.loop-k-test.true)),
   λ ls inside h.
       let all = (contents_of c.args.table.now).literals in
-      let m = marks_of c.args.marking.now in
+      let m = c.args.marking.now in
       let t = c.loop-k-test.true in
       with_literal m all c.args.run.end c.loop-k.k c.args.present ls c.and-all.result (omega arith) c.loop-k.auto.k inside c.literal-statement.result c.literal-statement.ensures.value
       (c.and-all.ensures m _ c.mark.ensures (c.loop-k.invariant.1 ls inside h)),
