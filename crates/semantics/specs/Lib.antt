@@ -5,4 +5,6 @@ pub mod Programs
 pub mod AnswerSets
 pub mod Markings
 pub mod Theorems
+pub mod Words
+pub mod Codes
 pub mod SmallTables

@@ -4,8 +4,13 @@ pub mod markings;
 pub mod rows;
 mod theorems;
 
+ghost use Rattle.semantics.specs.Codes.{Decodes};
+ghost use Rattle.semantics.specs.Markings.{marked};
 ghost use Rattle.semantics.specs.Programs.{stands};
-ghost use Rattle.std.specs.Prelude.{◌≡◌};
+ghost use Rattle.semantics.specs.Words.{mark_text, relation_text};
+ghost use Rattle.std.specs.Prelude.{◌≡◌, Some};
+
+use std::fmt;
 
 // What is known of a statement.
 #[derive(Clone, Copy, PartialEq, Eq, Debug)]
@@ -13,6 +18,27 @@ pub enum Mark {
     Open,
     In,
     Out,
+}
+
+// A statement that is present is in, and one that is absent is out.
+impl From<bool> for Mark {
+    ghost from_gives = { λ present mark. mark ≡ marked present };
+
+    fn from(present: bool) -> Mark {
+        if present { Mark::In } else { Mark::Out }
+    }
+}
+
+impl fmt::Display for Mark {
+    ghost output = { λ mark. Some (mark_text mark) };
+
+    fn fmt<W: fmt::Write>(&self, f: &mut fmt::Formatter<W>) -> fmt::Result {
+        f.write_str(match self {
+            Mark::Open => "open",
+            Mark::In => "in",
+            Mark::Out => "out",
+        })
+    }
 }
 
 // How the value of an aggregate is held against its bound.
@@ -39,6 +65,43 @@ impl Relation {
             Relation::AtLeast => value >= bound,
             Relation::More => value > bound,
         }
+    }
+}
+
+// A code that no relation has.
+#[derive(Clone, Copy, PartialEq, Eq, Debug)]
+pub struct UnknownRelation(pub u8);
+
+impl TryFrom<u8> for Relation {
+    type Error = UnknownRelation;
+
+    ghost try_from_gives = { Decodes };
+
+    fn try_from(code: u8) -> Result<Relation, UnknownRelation> {
+        match code {
+            0 => Ok(Relation::Less),
+            1 => Ok(Relation::AtMost),
+            2 => Ok(Relation::Equal),
+            3 => Ok(Relation::Unequal),
+            4 => Ok(Relation::AtLeast),
+            5 => Ok(Relation::More),
+            _ => Err(UnknownRelation(code)),
+        }
+    }
+}
+
+impl fmt::Display for Relation {
+    ghost output = { λ relation. Some (relation_text relation) };
+
+    fn fmt<W: fmt::Write>(&self, f: &mut fmt::Formatter<W>) -> fmt::Result {
+        f.write_str(match self {
+            Relation::Less => "<",
+            Relation::AtMost => "<=",
+            Relation::Equal => "=",
+            Relation::Unequal => "!=",
+            Relation::AtLeast => ">=",
+            Relation::More => ">",
+        })
     }
 }
 
