@@ -51,22 +51,12 @@ impl Literals {
     fn and(self, literal: Literal, mark: Mark) -> Literals
         ensures { (m : List Mark) (ls : List Literal) → mark ≡ at m literal.statement → LiteralsAre m ls self → LiteralsAre m (literal ∷ ls) result }
     {
-        match mark {
-            Mark::Open => self.and_open(literal),
-            Mark::In => {
-                if literal.present {
-                    self
-                } else {
-                    Literals::Against
-                }
-            }
-            Mark::Out => {
-                if literal.present {
-                    Literals::Against
-                } else {
-                    self
-                }
-            }
+        if mark == Mark::Open {
+            self.and_open(literal)
+        } else if mark == Mark::from(literal.present) {
+            self
+        } else {
+            Literals::Against
         }
     }
 }

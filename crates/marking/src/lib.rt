@@ -2,4 +2,4 @@
 
 mod marking;
 
-pub use marking::{Marking, mark_of};
+pub use marking::Marking;

@@ -1,6 +1,6 @@
 ghost use Rattle.std.specs.Prelude.{◌≡◌, ◌≤◌, length, min, map, replicate, slice_set};
 ghost use Rattle.marking.specs.Marks.{how_open};
-ghost use Rattle.semantics.specs.Markings.{at, found, marked};
+ghost use Rattle.semantics.specs.Markings.{at, found};
 ghost use Rattle.semantics.specs.declared.Mark.TheVariants.{Open};
 ghost use Rattle.std.specs.List.{range_with_len};
 
@@ -34,13 +34,6 @@ impl Model for Marking {
     ghost inverse = { fields };
 
     ghost inverse_ok = { fields-marks_held };
-}
-
-// The mark of a statement that is in (true) or out (false).
-pub fn mark_of(present: bool) -> Mark
-    ensures { result ≡ marked present }
-{
-    if present { Mark::In } else { Mark::Out }
 }
 
 impl Marking {
@@ -101,7 +94,7 @@ impl Marking {
     {
         let mut marking = Marking::all_open(statements);
         for finding in findings.iter().rev() {
-            marking.set(finding.statement, mark_of(finding.present));
+            marking.set(finding.statement, Mark::from(finding.present));
         }
         marking
     }

@@ -6,4 +6,4 @@ pub loop-finding-init : goal.loop-finding-init
 loop-finding-init c = c.all_open-marking.ensures ∙ none_noted _
 
 pub loop-finding-preserved : goal.loop-finding-preserved
-loop-finding-preserved c = noted_next _ c.loop-finding.yielded c.in-Some.finding _ _ _ c.loop-finding.invariant c.mark_of.ensures c.set.ensures
+loop-finding-preserved c = noted_next _ c.loop-finding.yielded c.in-Some.finding _ _ _ c.loop-finding.invariant c.from.ensures c.set.ensures
