@@ -1,7 +1,6 @@
 ghost use Rattle.drawing.specs.Applying.{Applied};
 ghost use Rattle.drawing.specs.Demands.{Demanded, demand_of};
 ghost use Rattle.drawing.specs.Passing.{RulePassed};
-ghost use Rattle.marking.specs.Marks.{marks_of};
 ghost use Rattle.semantics.specs.Families.{Values};
 ghost use Rattle.semantics.specs.Programs.{Program, Rule};
 ghost use Rattle.std.specs.Prelude.{◌≡◌};
@@ -38,7 +37,7 @@ pub(crate) fn demand_of(body: Body, head: Literals) -> Demand
 
 // Meets the demand of a rule.
 pub(crate) fn meet(marking: &mut Marking, demand: Demand) -> Result<(), Clash>
-    ensures { (value : Values) (p : Program) (g : Rule) → Demanded value p (marks_of marking.old) g demand → Applied value p (marks_of marking.old) (marks_of marking.new) result (RulePassed value (marks_of marking.old) g) }
+    ensures { (value : Values) (p : Program) (g : Rule) → Demanded value p marking.old g demand → Applied value p marking.old marking.new result (RulePassed value marking.old g) }
 {
     match demand {
         Demand::Broken => Err(Clash),

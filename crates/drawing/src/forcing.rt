@@ -1,6 +1,5 @@
 ghost use Rattle.drawing.specs.Applying.{Applied, EachOther, Forced, IsMarked, Other};
 ghost use Rattle.drawing.specs.Deriving.{Wanted};
-ghost use Rattle.marking.specs.Marks.{marks_of};
 ghost use Rattle.semantics.specs.Families.{Values};
 ghost use Rattle.semantics.specs.Programs.{Program};
 ghost use Rattle.std.specs.Prelude.{Decides};
@@ -16,7 +15,7 @@ pub(crate) struct Clash;
 
 // Marks a statement where it is open; against its mark it is a clash.
 pub(crate) fn force(marking: &mut Marking, statement: u16, present: bool) -> Result<(), Clash>
-    ensures { Forced (marks_of marking.old) (marks_of marking.new) statement present result }
+    ensures { Forced marking.old marking.new statement present result }
 {
     match (marking.mark(statement), present) {
         (Mark::Open, _) => {
@@ -47,7 +46,7 @@ fn force_other(
     present: bool,
     except: Option<u16>,
 ) -> Result<(), Clash>
-    ensures { (value : Values) (p : Program) → (Other except statement → Wanted value p (marks_of marking.old) statement present) → Applied value p (marks_of marking.old) (marks_of marking.new) result (Other except statement → IsMarked (marks_of marking.old) present statement) }
+    ensures { (value : Values) (p : Program) → (Other except statement → Wanted value p marking.old statement present) → Applied value p marking.old marking.new result (Other except statement → IsMarked marking.old present statement) }
 {
     if is_other(except, statement) {
         force(marking, statement, present)
@@ -64,7 +63,7 @@ pub(crate) fn force_run(
     present: bool,
     except: Option<u16>,
 ) -> Result<(), Clash>
-    ensures { (value : Values) (p : Program) → EachOther (λ q. Wanted value p (marks_of marking.old) q present) (contents_of table.now).literals run.first run.end except → Applied value p (marks_of marking.old) (marks_of marking.new) result (EachOther (IsMarked (marks_of marking.old) present) (contents_of table.now).literals run.first run.end except) }
+    ensures { (value : Values) (p : Program) → EachOther (λ q. Wanted value p marking.old q present) (contents_of table.now).literals run.first run.end except → Applied value p marking.old marking.new result (EachOther (IsMarked marking.old present) (contents_of table.now).literals run.first run.end except) }
 {
     for k in run.first..run.end {
         force_other(marking, table.literal(k), present, except)?;

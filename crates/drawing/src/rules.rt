@@ -2,7 +2,6 @@ ghost use Rattle.std.specs.Prelude.{◌<◌, length, slice_index_or};
 ghost use Rattle.drawing.specs.Applying.{Applied};
 ghost use Rattle.drawing.specs.Passing.{RulePassed};
 ghost use Rattle.drawing.specs.Sweeps.{AllStanding, Counted, CountedMore, RulesDone};
-ghost use Rattle.marking.specs.Marks.{marks_of};
 ghost use Rattle.table.specs.Contents.{program};
 ghost use Rattle.table.specs.Tables.{contents_of};
 ghost use Rattle.table.specs.View.{no_rule};
@@ -23,8 +22,8 @@ fn apply_rule<F: Family>(
     supports: &mut Supports,
     i: usize,
 ) -> Result<(), Clash>
-    ensures applied { i < length (contents_of table.now).rules → Applied (F.value family.now) (program (contents_of table.now)) (marks_of marking.old) (marks_of marking.new) result (RulePassed (F.value family.now) (marks_of marking.old) (slice_index_or (contents_of table.now).rules i no_rule)) }
-    ensures counted { i < length (contents_of table.now).rules → CountedMore (F.value family.now) (contents_of table.now).rules i (marks_of marking.old) supports.old.by supports.new.by }
+    ensures applied { i < length (contents_of table.now).rules → Applied (F.value family.now) (program (contents_of table.now)) marking.old marking.new result (RulePassed (F.value family.now) marking.old (slice_index_or (contents_of table.now).rules i no_rule)) }
+    ensures counted { i < length (contents_of table.now).rules → CountedMore (F.value family.now) (contents_of table.now).rules i marking.old supports.old.by supports.new.by }
 {
     let body = judge_body(table, family, marking, i);
     if let Body::Refuted = body {
@@ -41,7 +40,7 @@ pub(crate) fn apply_rules<F: Family>(
     marking: &mut Marking,
     supports: &mut Supports,
 ) -> Result<(), Clash>
-    ensures { Counted (F.value family.now) (contents_of table.now).rules 0 (marks_of marking.old) supports.old.by → AllStanding (F.value family.now) (contents_of table.now).rules (marks_of marking.old) supports.old.by → RulesDone (F.value family.now) (program (contents_of table.now)) (marks_of marking.old) (marks_of marking.new) supports.new.by result }
+    ensures { Counted (F.value family.now) (contents_of table.now).rules 0 marking.old supports.old.by → AllStanding (F.value family.now) (contents_of table.now).rules marking.old supports.old.by → RulesDone (F.value family.now) (program (contents_of table.now)) marking.old marking.new supports.new.by result }
 {
     for i in 0..table.rules() {
         apply_rule(table, family, marking, supports, i)?;

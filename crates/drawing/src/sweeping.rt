@@ -1,6 +1,5 @@
 ghost use Rattle.drawing.specs.Applying.{Applied};
 ghost use Rattle.drawing.specs.Drawings.{Settles, SettlesAnswers};
-ghost use Rattle.marking.specs.Marks.{marks_of};
 ghost use Rattle.semantics.specs.Markings.{Settled};
 ghost use Rattle.std.specs.Prelude.{◌≡◌, Decides};
 ghost use Rattle.table.specs.Contents.{program};
@@ -17,7 +16,7 @@ use table::table::Table;
 // Applies the steps once over all rules and all statements. Its time is linear in the size of the table: each rule is
 // judged once, and explains at most the statements of its head.
 fn sweep<F: Family>(table: &Table, family: &F, marking: &mut Marking) -> Result<(), Clash>
-    ensures { Applied (F.value family.now) (program (contents_of table.now)) (marks_of marking.old) (marks_of marking.new) result (Settled (F.value family.now) (contents_of table.now).rules (marks_of marking.old)) }
+    ensures { Applied (F.value family.now) (program (contents_of table.now)) marking.old marking.new result (Settled (F.value family.now) (contents_of table.now).rules marking.old) }
 {
     let mut supports = Supports::none();
     apply_rules(table, family, marking, &mut supports)?;
@@ -37,8 +36,8 @@ pub(crate) fn settle<F: Family>(
     family: &F,
     marking: &mut Marking,
 ) -> Result<(), Clash>
-    ensures drawn { Settles (F.value family.now) (program (contents_of table.now)) (marks_of marking.old) (marks_of marking.new) result }
-    ensures answers { SettlesAnswers (F.value family.now) (program (contents_of table.now)) (marks_of marking.old) (marks_of marking.new) result }
+    ensures drawn { Settles (F.value family.now) (program (contents_of table.now)) marking.old marking.new result }
+    ensures answers { SettlesAnswers (F.value family.now) (program (contents_of table.now)) marking.old marking.new result }
 {
     loop {
         let open = marking.open_count();

@@ -1,4 +1,3 @@
-ghost use Rattle.marking.specs.Marks.{marks_of};
 ghost use Rattle.notation.specs.Marks.{mark_line, mark_text, marks_text};
 ghost use Rattle.notation.specs.Text.{Adds};
 ghost use Rattle.std.specs.Prelude.{◌≡◌, IfOk};
@@ -27,7 +26,7 @@ fn put_line(
     marking: &Marking,
     statement: u16,
 ) -> Result<(), AllocError>
-    ensures { Adds result out.old out.new (mark_line (contents_of table.now).names (marks_of marking.now) statement) }
+    ensures { Adds result out.old out.new (mark_line (contents_of table.now).names marking.now statement) }
 {
     put(out, mark_word(marking.mark(statement)))?;
     put(out, b" ")?;
@@ -37,7 +36,7 @@ fn put_line(
 
 // Adds the lines of all statements of the table.
 fn put_lines(out: &mut Vec<u8>, table: &Table, marking: &Marking) -> Result<(), AllocError>
-    ensures { Adds result out.old out.new (marks_text (contents_of table.now).names (marks_of marking.now)) }
+    ensures { Adds result out.old out.new (marks_text (contents_of table.now).names marking.now) }
 {
     for statement in 0..table.statements() {
         put_line(out, table, marking, statement)?;
@@ -47,7 +46,7 @@ fn put_lines(out: &mut Vec<u8>, table: &Table, marking: &Marking) -> Result<(), 
 
 // What is known of each statement of the table, one a line. Those that the marking lacks are open.
 pub fn marks_text(heap: Global, table: &Table, marking: &Marking) -> Result<Vec<u8>, AllocError>
-    ensures { IfOk result (λ v. v.items ≡ marks_text (contents_of table.now).names (marks_of marking.now)) }
+    ensures { IfOk result (λ v. v.items ≡ marks_text (contents_of table.now).names marking.now) }
 {
     let mut out = Vec::new(heap);
     put_lines(&mut out, table, marking)?;

@@ -2,7 +2,6 @@ use Rattle.drawing.proofs.Applying.{applied_none}
 use Rattle.drawing.proofs.Demanding.{body_standing, demanded, refuted_passed}
 use Rattle.drawing.proofs.Passes.{counted_refuted, counted_standing}
 use Rattle.drawing.proofs.rules.apply_rule.Goals as goal
-use Rattle.marking.specs.Marks.{marks_of}
 use Rattle.semantics.proofs.Lists.{among_at}
 use Rattle.table.specs.Contents.{program}
 use Rattle.table.specs.Tables.{contents_of}
@@ -13,7 +12,7 @@ pub returns-in-Refuted : goal.returns-in-Refuted
 returns-in-Refuted g c =
     let value = g.F.Family.value c.args.family.now in
     let table = contents_of c.args.table.now in
-    let m = marks_of c.args.marking.now in
+    let m = c.args.marking.now in
     let f = c.in-Refuted.ensures in
     record {
       applied = λ l. applied_none value (program table) m _ (refuted_passed value m _ f);
@@ -24,7 +23,7 @@ pub returns : goal.returns
 returns g c =
     let value = g.F.Family.value c.args.family.now in
     let table = contents_of c.args.table.now in
-    let m = marks_of c.args.marking.now in
+    let m = c.args.marking.now in
     let r = get_or table.rules c.args.i no_rule in
     let body = c.judge_body-body.result in
     record {

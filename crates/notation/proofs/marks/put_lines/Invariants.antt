@@ -1,4 +1,3 @@
-use Rattle.marking.specs.Marks.{marks_of}
 use Rattle.notation.proofs.marks.put_lines.Given as goal
 use Rattle.notation.specs.Marks.{lines}
 use Rattle.notation.specs.Text.{Adds}
@@ -6,4 +5,4 @@ use Rattle.std.proofs.Common.{Ok}
 use Rattle.table.specs.Tables.{contents_of}
 
 abbrev pub invariant-loop-statement : goal.invariant-loop-statement
-invariant-loop-statement l = Adds (Ok tt) l.initial.out l.out (lines (contents_of l.table).names (marks_of l.marking) l.statement)
+invariant-loop-statement l = Adds (Ok tt) l.initial.out l.out (lines (contents_of l.table).names l.marking l.statement)
