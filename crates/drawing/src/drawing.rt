@@ -7,6 +7,7 @@ ghost use Rattle.std.specs.Prelude.{◌≡◌, Bool, List};
 
 use super::sweeping::settle;
 use family::Family;
+use judging::Rulebook;
 use marking::Marking;
 use semantics::Finding;
 use table::table::Table;
@@ -26,10 +27,8 @@ pub fn draw_from<F: Family>(table: &Table, family: &F, start: Marking) -> Option
     ensures answers { KeepsAnswers (F.value family.now) (program (contents_of table.now)) start result }
 {
     let mut marking = start;
-    match settle(table, family, &mut marking) {
-        Ok(()) => Some(marking),
-        Err(_) => None,
-    }
+    settle(&Rulebook { table, family }, &mut marking).ok()?;
+    Some(marking)
 }
 
 // Draws what the findings force: the settled marking that steps reach from them, or none where they clash. It marks in

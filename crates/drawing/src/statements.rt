@@ -9,8 +9,8 @@ ghost use Rattle.table.specs.Tables.{contents_of};
 
 use super::explaining::explain;
 use super::forcing::{Clash, force};
-use super::supports::Support;
-use super::tables::Supports;
+use super::supports::{Support, Supports};
+use judging::Literal;
 use marking::Marking;
 use semantics::Mark;
 use table::table::Table;
@@ -25,12 +25,20 @@ fn apply_statement(
     ensures { (value : Values) → SupportIs value (contents_of table.now).rules (length (contents_of table.now).rules) marking.old statement support → Applied value (program (contents_of table.now)) marking.old marking.new result (Standing value (contents_of table.now).rules marking.old statement support → StatementPassed value (contents_of table.now).rules marking.old statement) }
 {
     match support {
-        Support::Unsupported => force(marking, statement, false),
-        Support::OneRule(rule) => match marking.mark(statement) {
-            Mark::In => explain(table, marking, statement, rule),
-            Mark::Open => Ok(()),
-            Mark::Out => Ok(()),
-        },
+        Support::Unsupported => {
+            let out = Literal {
+                statement,
+                present: false,
+            };
+            force(marking, out)
+        }
+        Support::OneRule(rule) => {
+            if marking.mark(statement) == Mark::In {
+                explain(table, marking, statement, rule)
+            } else {
+                Ok(())
+            }
+        }
         Support::ManyRules => Ok(()),
     }
 }
