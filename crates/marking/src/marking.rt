@@ -46,6 +46,7 @@ impl Marking {
     }
 
     // All statements open; of more than 128 statements, the first 128.
+    #[tactic(auto, using(crate::proofs::Parts::open_padded, crate::proofs::Parts::open_part))]
     pub fn all_open(statements: u16) -> Marking
         ensures { result ≡ replicate (min statements 128) Open }
     {
@@ -71,6 +72,7 @@ impl Marking {
     }
 
     // How many statements are open.
+    #[tactic(auto, using(crate::proofs::Counting::how_open_counts))]
     pub fn open_count(&self) -> u16
         ensures { result ≡ how_open self.now }
     {
@@ -79,6 +81,7 @@ impl Marking {
     }
 
     // Marks a statement; past the last one it does nothing.
+    #[tactic(auto, using(crate::proofs::Parts::set_part))]
     pub fn set(&mut self, statement: u16, mark: Mark)
         ensures { self.new ≡ slice_set self.old statement mark }
     {
