@@ -1,5 +1,5 @@
 -- The text of a whole table.
-use Rattle.std.proofs.Common.{◌≡◌, ℕ, ◌+◌, ◌<◌, ◌≤◌, List, [], ◌∷◌, ◌++◌, length, get_or, take, IfOk, Ok, Err, vec_items, Result, Vec, sym, refl, ap, ◌∙◌, subst, append_assoc, arith}
+use Rattle.std.proofs.Common.{◌≡◌, ℕ, ◌+◌, ◌<◌, ◌≤◌, List, [], ◌∷◌, ◌++◌, length, get_or, take, IfOk, Ok, Err, string_bytes, Result, sym, refl, ap, ◌∙◌, subst, append_assoc, arith}
 use Rattle.format.specs.Check.{counts_of, faults}
 use Rattle.format.specs.Faults.{verdict}
 use Rattle.format.specs.declared.check.Counts.{Counts}
@@ -10,6 +10,7 @@ use Rattle.semantics.specs.Programs.{Rule}
 use Rattle.std.proofs.lemmas.List.{take_all, take_more}
 use Rattle.std.specs.declared.alloc.AllocError.{AllocError}
 use Rattle.std.specs.declared.alloc.Global.{Global}
+use Rattle.std.specs.declared.string.String.{String}
 use Rattle.table.specs.Contents.{contents}
 use Rattle.table.specs.View.{no_rule}
 
@@ -37,11 +38,11 @@ by_fault : (fs : List Fault) (b : List ℕ) (f : Fault) → Err f ≡ verdict fs
 by_fault [] b f e = let z : ◌≡◌ {A = ℕ} 0 1 = cc in absurd (omega arith)
 by_fault (x ∷ xs) b f e = let same : f ≡ x = cc in ap fault_text same
 
-module _ (b : List ℕ) (r : Result (Vec ℕ Global) AllocError) where
-  pub shown_accepted : (opened : List ℕ) (n : Counts) → opened ≡ b → Ok n ≡ verdict (faults b) (counts_of b) → IfOk r (λ v. vec_items v ≡ table_text opened n) → IfOk r (λ v. vec_items v ≡ shown b)
+module _ (b : List ℕ) (r : Result (String Global) AllocError) where
+  pub shown_accepted : (opened : List ℕ) (n : Counts) → opened ≡ b → Ok n ≡ verdict (faults b) (counts_of b) → IfOk r (λ s. string_bytes s ≡ table_text opened n) → IfOk r (λ s. string_bytes s ≡ shown b)
   unfolding shown
-  shown_accepted opened n o e = subst (λ t. IfOk r (λ v. vec_items v ≡ t)) (ap (λ a. table_text a n) o ∙ by_no_fault (faults b) b n e)
+  shown_accepted opened n o e = subst (λ t. IfOk r (λ s. string_bytes s ≡ t)) (ap (λ a. table_text a n) o ∙ by_no_fault (faults b) b n e)
 
-  pub shown_refused : (f : Fault) → Err f ≡ verdict (faults b) (counts_of b) → IfOk r (λ v. vec_items v ≡ fault_text f) → IfOk r (λ v. vec_items v ≡ shown b)
+  pub shown_refused : (f : Fault) → Err f ≡ verdict (faults b) (counts_of b) → IfOk r (λ s. string_bytes s ≡ fault_text f) → IfOk r (λ s. string_bytes s ≡ shown b)
   unfolding shown
-  shown_refused f e = subst (λ t. IfOk r (λ v. vec_items v ≡ t)) (by_fault (faults b) b f e)
+  shown_refused f e = subst (λ t. IfOk r (λ s. string_bytes s ≡ t)) (by_fault (faults b) b f e)
