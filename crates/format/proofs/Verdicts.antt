@@ -1,27 +1,30 @@
 -- What a chain of checks, and a loop of checks, returns.
-use Rattle.std.proofs.Common.{◌≡◌, ℕ, zero, suc, ◌+◌, ◌<◌, List, [], ◌∷◌, ◌++◌, IsErrAnd, Ok, Err, Result, sym, refl, ap, ◌∙◌, inl, inr, arith, below_more}
+use Rattle.std.proofs.Common.{◌≡◌, ℕ, zero, suc, ◌+◌, ◌<◌, List, [], ◌∷◌, ◌++◌, IsErrAnd, Ok, Err, Result, sym, refl, ap, ◌∙◌, inl, inr, arith, below_more, append_assoc, slice_index_or}
 use Rattle.std.proofs.lemmas.Result.{err_from_is_err_and}
 use Rattle.std.proofs.lemmas.Bool.{cases_lt}
 use Rattle.format.specs.Faults.{each, verdict}
+use Rattle.format.specs.Header.{every_area}
+use Rattle.layout.specs.declared.area.Area.{Area}
+use Rattle.layout.specs.declared.area.Area.TheVariants.{Statements, Rules, Literals, Aggregates, Members, Names}
 use Rattle.refusal.specs.declared.Fault.{Fault}
 
 -- no fault: the list is empty
 pub clean : {X : Type 0} (xs : List Fault) (x y : X) → verdict xs x ≡ Ok y → xs ≡ []
 clean [] x y e = refl
-clean (f ∷ fs) x y e = let z : ◌≡◌ {A = ℕ} 0 1 = cc in absurd (omega arith)
+clean (f ∷ fs) x y e = cc
 
 -- a fault of the front is the first of the whole, whatever the value would be
 front_fault : {X Y : Type 0} (xs ys : List Fault) (x : X) (y : Y) (f : Fault) → verdict xs x ≡ Err f → verdict (xs ++ ys) y ≡ Err f
-front_fault [] ys x y f e = let z : ◌≡◌ {A = ℕ} 0 1 = cc in absurd (omega arith)
+front_fault [] ys x y f e = cc
 front_fault (g ∷ gs) ys x y f e = ap Err (cc)
 
 same_fault : {X Y : Type 0} (xs : List Fault) (x : X) (y : Y) (f : Fault) → verdict xs x ≡ Err f → verdict xs y ≡ Err f
-same_fault [] x y f e = let z : ◌≡◌ {A = ℕ} 0 1 = cc in absurd (omega arith)
+same_fault [] x y f e = cc
 same_fault (g ∷ gs) x y f e = ap Err (cc)
 
 pub parts : (xs ys : List Fault) → xs ++ ys ≡ [] → (xs ≡ []) × (ys ≡ [])
 parts [] ys e = (refl, e)
-parts (x ∷ xs) ys e = let z : ◌≡◌ {A = ℕ} 0 1 = cc in absurd (omega arith)
+parts (x ∷ xs) ys e = cc
 
 -- A chain of checks: where it leaves by a `?`, at its last check, and past a check that was clean.
 module _ {X : Type 0} (r : Result X Fault) (e : Fault) (b : IsErrAnd r (λ y. y ≡ e)) where
@@ -37,8 +40,8 @@ module _ {X : Type 0} (r : Result X Fault) (e : Fault) (b : IsErrAnd r (λ y. y 
 pub goes_past : {X : Type 0} (r : Result X Fault) (xs ys : List Fault) (x : X) → Ok (tt {0}) ≡ verdict xs (tt {0}) → r ≡ verdict ys x → r ≡ verdict (xs ++ ys) x
 goes_past r xs ys x h k = rw (clean xs (tt {0}) (tt {0}) (sym h)) k
 
-pub ends_clean : {X : Type 0} (xs : List Fault) (x : X) → Ok (tt {0}) ≡ verdict xs (tt {0}) → Ok x ≡ verdict xs x
-ends_clean xs x h = rw (clean xs (tt {0}) (tt {0}) (sym h))
+pub ends_clean : {X : Type 0} (xs : List Fault) (x y : X) → Ok (tt {0}) ≡ verdict xs (tt {0}) → x ≡ y → Ok x ≡ verdict xs y
+ends_clean xs x y h e = rw (clean xs (tt {0}) (tt {0}) (sym h), e)
 
 -- The faults of records 0 to n - 1.
 each_none : (f : ℕ → List Fault) (n : ℕ) → ((k : ℕ) → k < n → f k ≡ []) → each n f ≡ []
@@ -74,3 +77,14 @@ each_more f i before h = below_more (λ k. f k ≡ []) i before (clean (f i) (tt
 
 pub each_passed : {X : Type 0} (f : ℕ → List Fault) (n : ℕ) (x : X) → ((k : ℕ) → k < n → f k ≡ []) → Ok x ≡ verdict (each n f) x
 each_passed f n x h = rw (each_none f n h)
+
+-- The six areas in turn are the records 0 to 5 of a list.
+abbrev areas : List Area
+areas = Statements ∷ (Rules ∷ (Literals ∷ (Aggregates ∷ (Members ∷ (Names ∷ [])))))
+
+abbrev pub at_area : (Area → List Fault) → ℕ → List Fault
+at_area f k = f (slice_index_or areas k Statements)
+
+pub every_area_each : (f : Area → List Fault) → every_area f ≡ each 6 (at_area f)
+unfolding each
+every_area_each f = simp append_assoc

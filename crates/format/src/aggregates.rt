@@ -1,144 +1,114 @@
-ghost use Rattle.format.specs.Aggregates.{aggregate_at, aggregate_faults, all_aggregate_faults, all_member_faults, member_at, member_faults, members_end, same_member_faults, set_faults};
-ghost use Rattle.format.specs.Faults.{verdict};
+ghost use Rattle.format.specs.Aggregates.{aggregate_faults, all_aggregate_faults, all_member_faults, member_at, member_faults, members_end, same_member_faults, set_faults};
+ghost use Rattle.format.specs.Faults.{each, verdict};
 ghost use Rattle.std.specs.Prelude.{◌≡◌};
 
 use super::fault::demand;
-use super::records::{Records, check_each};
+use super::records::{check_each, record_before};
 use layout::area::Area;
-use layout::bytes::{byte, whole, word};
+use layout::records::Record;
 use refusal::{Fault, Refusal};
 
 // The most that a weight may lie away from zero.
 const WEIGHT: i32 = 1_000_000;
 
-// The place of the record of aggregate i.
-fn aggregate_at(bytes: &[u8], i: u16) -> usize
-    ensures { result ≡ aggregate_at bytes.now i }
-{
-    Area::Aggregates.offset(bytes) as usize + 12 * i as usize
-}
-
 // Where the members of the aggregate before aggregate i end.
 fn members_end(bytes: &[u8], i: u16) -> usize
     ensures { result ≡ members_end bytes.now i }
 {
-    if i == 0 {
-        return 0;
-    }
-    let at = aggregate_at(bytes, i - 1);
-    word(bytes, at + 4) as usize + byte(bytes, at + 2) as usize
+    record_before(Area::Aggregates, bytes, i).map_or(0, |aggregate| {
+        usize::from(aggregate.word(4)) + usize::from(aggregate.byte(2))
+    })
 }
 
-struct AggregateRecords;
-
-impl Records for AggregateRecords {
-    ghost found = { λ _ b i. aggregate_faults b i };
-
-    fn check_one(&self, bytes: &[u8], i: u16) -> Result<(), Fault> {
-        let at = aggregate_at(bytes, i);
-        let joined = word(bytes, at + 4) as usize == members_end(bytes, i);
-        demand(byte(bytes, at + 1) <= 5, Refusal::UnknownRelation, at + 1)?;
-        demand(
-            byte(bytes, at + 2) <= 128 && joined,
-            Refusal::WrongMemberRun,
-            at,
-        )?;
-        demand(byte(bytes, at + 3) == 0, Refusal::AggregatePadding, at + 3)?;
-        demand(byte(bytes, at + 6) == 0, Refusal::AggregatePadding, at + 6)?;
-        demand(byte(bytes, at + 7) == 0, Refusal::AggregatePadding, at + 7)
-    }
+fn check_aggregate(bytes: &[u8], i: u16) -> Result<(), Fault>
+    ensures { result ≡ verdict (aggregate_faults bytes.now i) tt }
+{
+    let aggregate = Area::Aggregates.record(bytes, u32::from(i));
+    let at = aggregate.at;
+    let joined = usize::from(aggregate.word(4)) == members_end(bytes, i);
+    demand(aggregate.byte(1) <= 5, Refusal::UnknownRelation, at + 1)?;
+    demand(
+        aggregate.byte(2) <= 128 && joined,
+        Refusal::WrongMemberRun,
+        at,
+    )?;
+    demand(aggregate.byte(3) == 0, Refusal::AggregatePadding, at + 3)?;
+    demand(aggregate.byte(6) == 0, Refusal::AggregatePadding, at + 6)?;
+    demand(aggregate.byte(7) == 0, Refusal::AggregatePadding, at + 7)
 }
 
 pub(crate) fn check_aggregates(bytes: &[u8]) -> Result<(), Fault>
     ensures { result ≡ verdict (all_aggregate_faults bytes.now) tt }
 {
     let count = Area::Aggregates.count(bytes);
-    let members = Area::Members.count(bytes) as usize;
-    check_each(&AggregateRecords, bytes, count)?;
+    check_each(count, |i| check_aggregate(bytes, i))?;
     demand(
-        members_end(bytes, count) == members,
+        members_end(bytes, count) == usize::from(Area::Members.count(bytes)),
         Refusal::MembersUnfilled,
-        20,
+        Area::Members.field(),
     )
 }
 
-// The place of member k of the set of aggregate i.
-fn member_at(bytes: &[u8], i: u16, k: u16) -> usize
-    ensures { result ≡ member_at bytes.now i k }
+// Member k of the set of aggregate i.
+fn member(bytes: &[u8], i: u16, k: u16) -> Record<'_>
+    ensures bytes { result.bytes.now ≡ bytes.now }
+    ensures at { result.at ≡ member_at bytes.now i k }
 {
-    let first = word(bytes, aggregate_at(bytes, i) + 4) as usize;
-    Area::Members.offset(bytes) as usize + 8 * (first + k as usize)
+    let first = Area::Aggregates.record(bytes, u32::from(i)).word(4);
+    Area::Members.record(bytes, u32::from(first) + u32::from(k))
 }
 
-// The members of a set before one of them.
-#[derive(Clone, Copy)]
-struct MembersBefore {
-    set: u16,
-    member: u16,
+// Refuses member k of the set of aggregate i where it has the statement of the earlier member j.
+fn check_members_differ(bytes: &[u8], i: u16, k: u16, j: u16) -> Result<(), Fault>
+    ensures { result ≡ verdict (same_member_faults bytes.now i k j) tt }
+{
+    let member_k = member(bytes, i, k);
+    demand(
+        member(bytes, i, j).byte(0) != member_k.byte(0),
+        Refusal::MemberTwice,
+        member_k.at,
+    )
 }
 
-impl Records for MembersBefore {
-    ghost found = { λ s b j. same_member_faults b s.set s.member j };
-
-    fn check_one(&self, bytes: &[u8], i: u16) -> Result<(), Fault> {
-        let at = member_at(bytes, self.set, self.member);
-        let before = byte(bytes, member_at(bytes, self.set, i));
-        demand(before != byte(bytes, at), Refusal::MemberTwice, at)
-    }
+// Refuses member k where an earlier member of its set has its statement.
+fn check_member_once(bytes: &[u8], i: u16, k: u16) -> Result<(), Fault>
+    ensures { result ≡ verdict (each k (same_member_faults bytes.now i k)) tt }
+{
+    check_each(k, move |j| check_members_differ(bytes, i, k, j))
 }
 
-// The members of one set.
-#[derive(Clone, Copy)]
-struct SetMembers {
-    set: u16,
+fn check_member(bytes: &[u8], i: u16, k: u16) -> Result<(), Fault>
+    ensures { result ≡ verdict (member_faults bytes.now i k) tt }
+{
+    let member = member(bytes, i, k);
+    let at = member.at;
+    let weight = member.whole(4);
+    demand(
+        u16::from(member.byte(0)) < Area::Statements.count(bytes),
+        Refusal::UnknownMember,
+        at,
+    )?;
+    demand(member.byte(1) == 0, Refusal::MemberPadding, at + 1)?;
+    demand(member.byte(2) == 0, Refusal::MemberPadding, at + 2)?;
+    demand(member.byte(3) == 0, Refusal::MemberPadding, at + 3)?;
+    demand(
+        (-WEIGHT..=WEIGHT).contains(&weight),
+        Refusal::WeightTooLarge,
+        at + 4,
+    )?;
+    check_member_once(bytes, i, k)
 }
 
-impl Records for SetMembers {
-    ghost found = { λ s b k. member_faults b s.set k };
-
-    fn check_one(&self, bytes: &[u8], i: u16) -> Result<(), Fault> {
-        let at = member_at(bytes, self.set, i);
-        let weight = whole(bytes, at + 4);
-        demand(
-            (byte(bytes, at) as u16) < Area::Statements.count(bytes),
-            Refusal::UnknownMember,
-            at,
-        )?;
-        demand(byte(bytes, at + 1) == 0, Refusal::MemberPadding, at + 1)?;
-        demand(byte(bytes, at + 2) == 0, Refusal::MemberPadding, at + 2)?;
-        demand(byte(bytes, at + 3) == 0, Refusal::MemberPadding, at + 3)?;
-        demand(
-            -WEIGHT <= weight && weight <= WEIGHT,
-            Refusal::WeightTooLarge,
-            at + 4,
-        )?;
-        check_each(
-            &MembersBefore {
-                set: self.set,
-                member: i,
-            },
-            bytes,
-            i,
-        )
-    }
-}
-
-struct Sets;
-
-impl Records for Sets {
-    ghost found = { λ _ b i. set_faults b i };
-
-    fn check_one(&self, bytes: &[u8], i: u16) -> Result<(), Fault> {
-        check_each(
-            &SetMembers { set: i },
-            bytes,
-            byte(bytes, aggregate_at(bytes, i) + 2) as u16,
-        )
-    }
+// The set of aggregate i, member by member.
+fn check_set(bytes: &[u8], i: u16) -> Result<(), Fault>
+    ensures { result ≡ verdict (set_faults bytes.now i) tt }
+{
+    let members = Area::Aggregates.record(bytes, u32::from(i)).byte(2);
+    check_each(u16::from(members), move |k| check_member(bytes, i, k))
 }
 
 pub(crate) fn check_members(bytes: &[u8]) -> Result<(), Fault>
     ensures { result ≡ verdict (all_member_faults bytes.now) tt }
 {
-    check_each(&Sets, bytes, Area::Aggregates.count(bytes))
+    check_each(Area::Aggregates.count(bytes), |i| check_set(bytes, i))
 }

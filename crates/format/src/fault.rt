@@ -4,7 +4,7 @@ ghost use Rattle.std.specs.Prelude.{◌≡◌};
 use refusal::{Fault, Refusal};
 
 // Refuses unless the condition holds.
-pub(crate) fn demand(holds: bool, refusal: Refusal, place: usize) -> Result<(), Fault>
+pub fn demand(holds: bool, refusal: Refusal, place: usize) -> Result<(), Fault>
     ensures { result ≡ verdict (unless holds refusal place) tt }
 {
     if holds {

@@ -1,6 +1,8 @@
 ghost use Rattle.format.specs.Faults.{verdict};
 ghost use Rattle.format.specs.Header.{area_end, count_faults, end_before, every_area, header_faults, offset_faults};
-ghost use Rattle.std.specs.Prelude.{◌≡◌};
+ghost use Rattle.layout.specs.declared.area.Area.{Area};
+ghost use Rattle.refusal.specs.declared.Fault.{Fault};
+ghost use Rattle.std.specs.Prelude.{List, ◌≡◌};
 
 use super::fault::demand;
 use layout::area::Area;
@@ -16,7 +18,7 @@ const FORMAT: u16 = 1;
 fn area_end(bytes: &[u8], area: Area) -> usize
     ensures { result ≡ area_end bytes.now area }
 {
-    area.offset(bytes) as usize + area.size() * area.count(bytes) as usize
+    area.record(bytes, u32::from(area.count(bytes))).at
 }
 
 fn end_before(bytes: &[u8], area: Area) -> usize
@@ -42,36 +44,27 @@ fn check_count(bytes: &[u8], area: Area) -> Result<(), Fault>
     )
 }
 
-fn check_counts(bytes: &[u8]) -> Result<(), Fault>
-    ensures { result ≡ verdict (every_area (count_faults bytes.now)) tt }
-{
-    check_count(bytes, Area::Statements)?;
-    check_count(bytes, Area::Rules)?;
-    check_count(bytes, Area::Literals)?;
-    check_count(bytes, Area::Aggregates)?;
-    check_count(bytes, Area::Members)?;
-    check_count(bytes, Area::Names)
-}
-
 fn check_offset(bytes: &[u8], area: Area) -> Result<(), Fault>
     ensures { result ≡ verdict (offset_faults bytes.now area) tt }
 {
     demand(
-        area.offset(bytes) as usize == end_before(bytes, area),
+        usize::from(area.offset(bytes)) == end_before(bytes, area),
         Refusal::WrongOffset,
         area.field() + 2,
     )
 }
 
-fn check_offsets(bytes: &[u8]) -> Result<(), Fault>
-    ensures { result ≡ verdict (every_area (offset_faults bytes.now)) tt }
+// The first fault of the six areas, each of which is checked by itself: area a has the faults found a.
+fn check_areas<F: Fn(Area) -> Result<(), Fault>>(check: F) -> Result<(), Fault>
+    ghost found: { Area → List Fault }
+    requires callable { F.IsAlwaysCallable check }
+    requires finds { (area : Area) (r : _) → F.post check area r → r ≡ verdict (found area) tt }
+    ensures { result ≡ verdict (every_area found) tt }
 {
-    check_offset(bytes, Area::Statements)?;
-    check_offset(bytes, Area::Rules)?;
-    check_offset(bytes, Area::Literals)?;
-    check_offset(bytes, Area::Aggregates)?;
-    check_offset(bytes, Area::Members)?;
-    check_offset(bytes, Area::Names)
+    for area in Area::ALL {
+        check(area)?;
+    }
+    Ok(())
 }
 
 pub(crate) fn check_header(bytes: &[u8]) -> Result<(), Fault>
@@ -80,15 +73,15 @@ pub(crate) fn check_header(bytes: &[u8]) -> Result<(), Fault>
     demand(HEADER <= bytes.len(), Refusal::TooShort, bytes.len())?;
     demand(word(bytes, 0) == FORMAT, Refusal::WrongFormat, 0)?;
     demand(
-        word(bytes, 2) as usize == bytes.len(),
+        usize::from(word(bytes, 2)) == bytes.len(),
         Refusal::WrongLength,
         2,
     )?;
-    check_counts(bytes)?;
-    check_offsets(bytes)?;
+    check_areas(|area| check_count(bytes, area))?;
+    check_areas(|area| check_offset(bytes, area))?;
     demand(
         area_end(bytes, Area::Names) == bytes.len(),
         Refusal::NamesNotLast,
-        24,
+        Area::Names.field(),
     )
 }

@@ -2,7 +2,7 @@
 
 mod aggregates;
 pub mod check;
-mod fault;
+pub mod fault;
 mod header;
 mod records;
 mod rules;

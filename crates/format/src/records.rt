@@ -1,24 +1,29 @@
-ghost use Rattle.std.specs.Prelude.{◌≡◌, ℕ, List};
 ghost use Rattle.format.specs.Faults.{each, verdict};
+ghost use Rattle.layout.specs.Areas.{offset, size};
 ghost use Rattle.refusal.specs.declared.Fault.{Fault};
+ghost use Rattle.std.specs.Prelude.{List, MatchOption, suc, ℕ, ◌*◌, ◌+◌, ◌<◌, ◌^◌, ◌≡◌};
 
+use layout::area::Area;
+use layout::records::Record;
 use refusal::Fault;
 
-// A kind of records, each of which is checked by itself.
-pub(crate) trait Records {
-    // The faults of record i of the bytes.
-    ghost found: { Self → List ℕ → ℕ → List Fault };
-
-    fn check_one(&self, bytes: &[u8], i: u16) -> Result<(), Fault>
-        ensures { result ≡ verdict (found self.now bytes.now i) tt };
+// The record before record i of an area; the first has none.
+pub(crate) fn record_before(area: Area, bytes: &[u8], i: u16) -> Option<Record<'_>>
+    ensures { MatchOption result (i ≡ 0) (λ r. (k : ℕ) × (i ≡ suc k) × (r.bytes.now ≡ bytes.now) × (r.at ≡ offset bytes.now area + size area * k)) }
+{
+    i.checked_sub(1)
+        .map(|before| area.record(bytes, u32::from(before)))
 }
 
-// The first fault of the records 0 to n - 1.
-pub(crate) fn check_each<R: Records>(records: &R, bytes: &[u8], n: u16) -> Result<(), Fault>
-    ensures { result ≡ verdict (each n (R.found records.now bytes.now)) tt }
+// The first fault of the records 0 to n - 1, each of which is checked by itself: record i has the faults found i.
+pub(crate) fn check_each<F: Fn(u16) -> Result<(), Fault>>(n: u16, check: F) -> Result<(), Fault>
+    ghost found: { ℕ → List Fault }
+    requires callable { F.IsAlwaysCallable check }
+    requires finds { (i : ℕ) (r : _) → i < 2 ^ 16 → F.post check i r → r ≡ verdict (found i) tt }
+    ensures { result ≡ verdict (each n found) tt }
 {
     for i in 0..n {
-        records.check_one(bytes, i)?;
+        check(i)?;
     }
     Ok(())
 }

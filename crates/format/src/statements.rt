@@ -1,98 +1,76 @@
 ghost use Rattle.format.specs.Faults.{verdict};
-ghost use Rattle.format.specs.Statements.{all_statement_faults, name_at, name_byte_faults, name_twice_faults, names_end, same_name_faults, statement_at, statement_faults};
-ghost use Rattle.std.specs.Str.{bytes_eq};
+ghost use Rattle.format.specs.Statements.{all_statement_faults, name_at, name_byte_faults, name_twice_faults, names_end, same_name_faults, statement_faults};
 ghost use Rattle.std.specs.Prelude.{◌≡◌};
 
 use super::fault::demand;
-use super::records::{Records, check_each};
+use super::records::{check_each, record_before};
 use layout::area::Area;
-use layout::bytes::{byte, part, word};
+use layout::bytes::part;
 use refusal::{Fault, Refusal};
-
-// The place of the record of statement i.
-fn statement_at(bytes: &[u8], i: u16) -> usize
-    ensures { result ≡ statement_at bytes.now i }
-{
-    Area::Statements.offset(bytes) as usize + 4 * i as usize
-}
 
 // Where the name before that of statement i ends.
 fn names_end(bytes: &[u8], i: u16) -> usize
     ensures { result ≡ names_end bytes.now i }
 {
-    if i == 0 {
-        return 0;
-    }
-    let at = statement_at(bytes, i - 1);
-    word(bytes, at) as usize + byte(bytes, at + 2) as usize
+    record_before(Area::Statements, bytes, i).map_or(0, |statement| {
+        usize::from(statement.word(0)) + usize::from(statement.byte(2))
+    })
 }
 
 fn name_at(bytes: &[u8], i: u16) -> &[u8]
     ensures { result.now ≡ name_at bytes.now i }
 {
-    let at = statement_at(bytes, i);
-    let start = Area::Names.offset(bytes) as usize + word(bytes, at) as usize;
-    part(bytes, start, byte(bytes, at + 2) as usize)
+    let statement = Area::Statements.record(bytes, u32::from(i));
+    let name = Area::Names.record(bytes, u32::from(statement.word(0)));
+    part(bytes, name.at, usize::from(statement.byte(2)))
 }
 
-fn same_name(bytes: &[u8], j: u16, i: u16) -> bool
-    ensures { result ≡ bytes_eq (name_at bytes.now j) (name_at bytes.now i) }
+fn check_statement(bytes: &[u8], i: u16) -> Result<(), Fault>
+    ensures { result ≡ verdict (statement_faults bytes.now i) tt }
 {
-    name_at(bytes, j) == name_at(bytes, i)
+    let statement = Area::Statements.record(bytes, u32::from(i));
+    let len = statement.byte(2);
+    let joined = usize::from(statement.word(0)) == names_end(bytes, i);
+    demand(
+        (1..=32).contains(&len) && joined,
+        Refusal::WrongNameRun,
+        statement.at,
+    )?;
+    demand(
+        statement.byte(3) == 0,
+        Refusal::StatementPadding,
+        statement.at + 3,
+    )
 }
 
-struct StatementRecords;
-
-impl Records for StatementRecords {
-    ghost found = { λ _ b i. statement_faults b i };
-
-    fn check_one(&self, bytes: &[u8], i: u16) -> Result<(), Fault> {
-        let at = statement_at(bytes, i);
-        let len = byte(bytes, at + 2);
-        let joined = word(bytes, at) as usize == names_end(bytes, i);
-        demand(1 <= len && len <= 32 && joined, Refusal::WrongNameRun, at)?;
-        demand(byte(bytes, at + 3) == 0, Refusal::StatementPadding, at + 3)
-    }
+// Byte k of the names, which is printable and no blank.
+fn check_name_byte(bytes: &[u8], k: u16) -> Result<(), Fault>
+    ensures { result ≡ verdict (name_byte_faults bytes.now k) tt }
+{
+    let letter = Area::Names.record(bytes, u32::from(k));
+    demand(
+        letter.byte(0).is_ascii_graphic(),
+        Refusal::NameByte,
+        letter.at,
+    )
 }
 
-struct NameBytes;
-
-impl Records for NameBytes {
-    ghost found = { λ _ b k. name_byte_faults b k };
-
-    fn check_one(&self, bytes: &[u8], i: u16) -> Result<(), Fault> {
-        let at = Area::Names.offset(bytes) as usize + i as usize;
-        let letter = byte(bytes, at);
-        demand(33 <= letter && letter <= 126, Refusal::NameByte, at)
-    }
+// Refuses statement i where it has the name of the earlier statement j.
+fn check_names_differ(bytes: &[u8], i: u16, j: u16) -> Result<(), Fault>
+    ensures { result ≡ verdict (same_name_faults bytes.now i j) tt }
+{
+    demand(
+        name_at(bytes, j) != name_at(bytes, i),
+        Refusal::NameTwice,
+        Area::Statements.record(bytes, u32::from(i)).at,
+    )
 }
 
-// The names before that of a statement.
-#[derive(Clone, Copy)]
-struct NamesBefore {
-    statement: u16,
-}
-
-impl Records for NamesBefore {
-    ghost found = { λ s b j. same_name_faults b s.statement j };
-
-    fn check_one(&self, bytes: &[u8], i: u16) -> Result<(), Fault> {
-        demand(
-            !same_name(bytes, i, self.statement),
-            Refusal::NameTwice,
-            statement_at(bytes, self.statement),
-        )
-    }
-}
-
-struct Names;
-
-impl Records for Names {
-    ghost found = { λ _ b i. name_twice_faults b i };
-
-    fn check_one(&self, bytes: &[u8], i: u16) -> Result<(), Fault> {
-        check_each(&NamesBefore { statement: i }, bytes, i)
-    }
+// Refuses statement i where an earlier one has its name.
+fn check_name_once(bytes: &[u8], i: u16) -> Result<(), Fault>
+    ensures { result ≡ verdict (name_twice_faults bytes.now i) tt }
+{
+    check_each(i, move |j| check_names_differ(bytes, i, j))
 }
 
 pub(crate) fn check_statements(bytes: &[u8]) -> Result<(), Fault>
@@ -100,12 +78,12 @@ pub(crate) fn check_statements(bytes: &[u8]) -> Result<(), Fault>
 {
     let count = Area::Statements.count(bytes);
     let names = Area::Names.count(bytes);
-    check_each(&StatementRecords, bytes, count)?;
+    check_each(count, |i| check_statement(bytes, i))?;
     demand(
-        names_end(bytes, count) == names as usize,
+        names_end(bytes, count) == usize::from(names),
         Refusal::NamesUnfilled,
-        24,
+        Area::Names.field(),
     )?;
-    check_each(&NameBytes, bytes, names)?;
-    check_each(&Names, bytes, count)
+    check_each(names, |k| check_name_byte(bytes, k))?;
+    check_each(count, |i| check_name_once(bytes, i))
 }

@@ -1,7 +1,8 @@
 ghost use Rattle.layout.specs.Areas.{count, field_of, most, offset, size};
-ghost use Rattle.std.specs.Prelude.{◌≡◌};
+ghost use Rattle.std.specs.Prelude.{◌*◌, ◌+◌, ◌≡◌};
 
 use super::bytes::word;
+use super::records::Record;
 
 // The six areas of a table, in their order.
 #[derive(Clone, Copy, PartialEq, Eq, Debug)]
@@ -15,6 +16,16 @@ pub enum Area {
 }
 
 impl Area {
+    // The six in turn.
+    pub const ALL: [Area; 6] = [
+        Area::Statements,
+        Area::Rules,
+        Area::Literals,
+        Area::Aggregates,
+        Area::Members,
+        Area::Names,
+    ];
+
     // Where the header has the area's count; the offset stands behind it.
     pub fn field(self) -> usize
         ensures { result ≡ field_of self }
@@ -69,5 +80,16 @@ impl Area {
         ensures { result ≡ offset bytes.now self }
     {
         word(bytes, self.field() + 2)
+    }
+
+    // Record i of the area, by the header. It may lie past the end, where every byte reads as 0.
+    pub fn record(self, bytes: &[u8], i: u32) -> Record<'_>
+        ensures bytes { result.bytes.now ≡ bytes.now }
+        ensures at { result.at ≡ offset bytes.now self + size self * i }
+    {
+        Record {
+            bytes,
+            at: usize::from(self.offset(bytes)) + self.size() * i as usize,
+        }
     }
 }

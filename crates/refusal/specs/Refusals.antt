@@ -1,5 +1,6 @@
--- The number and the layer of each refusal.
-use Rattle.std.specs.Prelude.{ℕ}
+-- The number and the layer of each refusal, and how a fault is written.
+use Rattle.std.specs.Prelude.{ℕ, List, ◌++◌, codes, decimal}
+use Rattle.refusal.specs.declared.Fault.{Fault}
 use Rattle.refusal.specs.declared.Layer.{Layer}
 use Rattle.refusal.specs.declared.Layer.TheVariants.{Header, Statements, Rules, Literals, Aggregates, Members, Family}
 use Rattle.refusal.specs.declared.Refusal.{Refusal}
@@ -37,3 +38,7 @@ number_of r = (seen r).0
 
 abbrev pub layer_of : Refusal → Layer
 layer_of r = (seen r).1
+
+-- a fault as people read it, without the end of the line
+abbrev pub refused_text : Fault → List ℕ
+refused_text f = codes "refused " ++ (decimal (number_of f.refusal) ++ (codes " at " ++ decimal f.place))

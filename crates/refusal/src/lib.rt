@@ -1,7 +1,10 @@
 #![tactic(auto)]
 
-ghost use Rattle.refusal.specs.Refusals.{layer_of, number_of};
-ghost use Rattle.std.specs.Prelude.{◌≡◌};
+ghost use Rattle.refusal.specs.Refusals.{layer_of, number_of, refused_text};
+ghost use Rattle.std.specs.Prelude.{Some, ◌≡◌};
+
+use std::fmt;
+use std::fmt::Write;
 
 // The part of the work in which something was refused.
 #[derive(Clone, Copy, PartialEq, Eq, Debug)]
@@ -15,33 +18,34 @@ pub enum Layer {
     Family,
 }
 
-// Why something was refused. docs/REFUSALS.md has the condition and the place of each.
+// Why something was refused, by the number by which users and documents name it. docs/REFUSALS.md has the condition and
+// the place of each.
 #[derive(Clone, Copy, PartialEq, Eq, Debug)]
 pub enum Refusal {
-    TooShort,
-    WrongFormat,
-    WrongLength,
-    CountTooLarge,
-    WrongOffset,
-    NamesNotLast,
-    WrongNameRun,
-    StatementPadding,
-    NamesUnfilled,
-    NameByte,
-    NameTwice,
-    RuleCountTooLarge,
-    WrongRuleRun,
-    RulesUnfilled,
-    UnknownLiteral,
-    UnknownRelation,
-    WrongMemberRun,
-    AggregatePadding,
-    MembersUnfilled,
-    UnknownMember,
-    MemberPadding,
-    WeightTooLarge,
-    MemberTwice,
-    LackingKind,
+    TooShort = 1,
+    WrongFormat = 2,
+    WrongLength = 3,
+    CountTooLarge = 4,
+    WrongOffset = 5,
+    NamesNotLast = 6,
+    WrongNameRun = 7,
+    StatementPadding = 8,
+    NamesUnfilled = 9,
+    NameByte = 10,
+    NameTwice = 11,
+    RuleCountTooLarge = 12,
+    WrongRuleRun = 13,
+    RulesUnfilled = 14,
+    UnknownLiteral = 15,
+    UnknownRelation = 16,
+    WrongMemberRun = 17,
+    AggregatePadding = 18,
+    MembersUnfilled = 19,
+    UnknownMember = 20,
+    MemberPadding = 21,
+    WeightTooLarge = 22,
+    MemberTwice = 23,
+    LackingKind = 26,
 }
 
 impl Refusal {
@@ -49,32 +53,7 @@ impl Refusal {
     pub fn number(self) -> u8
         ensures { result ≡ number_of self }
     {
-        match self {
-            Refusal::TooShort => 1,
-            Refusal::WrongFormat => 2,
-            Refusal::WrongLength => 3,
-            Refusal::CountTooLarge => 4,
-            Refusal::WrongOffset => 5,
-            Refusal::NamesNotLast => 6,
-            Refusal::WrongNameRun => 7,
-            Refusal::StatementPadding => 8,
-            Refusal::NamesUnfilled => 9,
-            Refusal::NameByte => 10,
-            Refusal::NameTwice => 11,
-            Refusal::RuleCountTooLarge => 12,
-            Refusal::WrongRuleRun => 13,
-            Refusal::RulesUnfilled => 14,
-            Refusal::UnknownLiteral => 15,
-            Refusal::UnknownRelation => 16,
-            Refusal::WrongMemberRun => 17,
-            Refusal::AggregatePadding => 18,
-            Refusal::MembersUnfilled => 19,
-            Refusal::UnknownMember => 20,
-            Refusal::MemberPadding => 21,
-            Refusal::WeightTooLarge => 22,
-            Refusal::MemberTwice => 23,
-            Refusal::LackingKind => 26,
-        }
+        self as u8
     }
 
     // The part of the work that refuses so.
@@ -114,4 +93,12 @@ impl Refusal {
 pub struct Fault {
     pub refusal: Refusal,
     pub place: usize,
+}
+
+impl fmt::Display for Fault {
+    ghost output = { λ f. Some (refused_text f) };
+
+    fn fmt<W: Write>(&self, f: &mut fmt::Formatter<W>) -> fmt::Result {
+        write!(f, "refused {} at {}", self.refusal.number(), self.place)
+    }
 }
