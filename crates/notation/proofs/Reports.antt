@@ -3,6 +3,7 @@ use Rattle.std.proofs.Common.{◌≡◌, ℕ, ◌+◌, ◌<◌, ◌≤◌, List,
 use Rattle.format.specs.Check.{counts_of, faults}
 use Rattle.format.specs.Faults.{verdict}
 use Rattle.format.specs.declared.check.Counts.{Counts}
+use Rattle.refusal.specs.Refusals.{refused_text}
 use Rattle.refusal.specs.declared.Fault.{Fault}
 use Rattle.notation.specs.Shown.{by_faults, counts_text, fault_text, newline, rules_text, shown}
 use Rattle.notation.specs.Text.{rule_text}
@@ -25,6 +26,10 @@ rules_text_more names rs i l = rw (take_more rs i no_rule l) (sym (rules_text_ne
 
 pub rules_text_all : (names : List (List ℕ)) (rs : List Rule) (i : ℕ) → length rs ≤ i → rules_text names (take i rs) ≡ rules_text names rs
 rules_text_all names rs i h = ap (rules_text names) (take_all i rs h)
+
+-- A fault, in a line.
+pub fault_line : (f : Fault) → refused_text f ++ newline ≡ fault_text f
+fault_line f = simp append_assoc
 
 -- The check's answer says which of the two texts is shown.
 abbrev table_text : List ℕ → Counts → List ℕ

@@ -1,5 +1,5 @@
 ghost use Rattle.notation.specs.Shown.{counts_text, fault_text, rules_text, shown};
-ghost use Rattle.std.specs.Prelude.{◌≡◌, IfOk, Some, string_bytes};
+ghost use Rattle.std.specs.Prelude.{◌≡◌, ◌++◌, IfOk, Some, string_bytes};
 ghost use Rattle.table.specs.Tables.{contents_of};
 
 use super::rules::Rule;
@@ -10,12 +10,11 @@ use std::fmt;
 use table::table::Table;
 
 // Why a table is refused, in a line.
+#[tactic(auto, using(crate::proofs::Reports::fault_line))]
 pub fn fault_text(heap: Global, fault: Fault) -> Result<String, AllocError>
     ensures { IfOk result (λ s. string_bytes s ≡ fault_text fault) }
 {
-    let number = fault.refusal.number();
-    let place = fault.place;
-    format!(in heap; "refused {number} at {place}\n")
+    format!(in heap; "{fault}\n")
 }
 
 // How many records the areas have, in a line.
@@ -57,16 +56,21 @@ impl fmt::Display for Rules<'_> {
     }
 }
 
+// The counts of a table and its rules.
+fn table_text(heap: Global, table: Table, counts: Counts) -> Result<String, AllocError>
+    ensures { IfOk result (λ s. string_bytes s ≡ counts_text counts ++ rules_text (contents_of table.entry).names (contents_of table.entry).rules) }
+{
+    let counts = CountsLine(counts);
+    let rules = Rules(table);
+    format!(in heap; "{counts}{rules}")
+}
+
 // The bytes of a table as people read them: why they are refused, or their counts and rules.
 pub fn shown(heap: Global, bytes: &[u8]) -> Result<String, AllocError>
     ensures { IfOk result (λ s. string_bytes s ≡ shown bytes.now) }
 {
     match check(bytes) {
-        Ok(counts) => {
-            let counts = CountsLine(counts);
-            let rules = Rules(Table::open(bytes));
-            format!(in heap; "{counts}{rules}")
-        }
+        Ok(counts) => table_text(heap, Table::open(bytes), counts),
         Err(fault) => fault_text(heap, fault),
     }
 }

@@ -35,10 +35,7 @@ fn tell(rt: &HostRuntime, line: &str) -> anyhow::Result<()> {
                 "{name}: accepted {statements} {rules} {literals} {aggregates} {members} {names}"
             )?;
         }
-        Err(fault) => {
-            let (number, place) = (fault.refusal.number(), fault.place);
-            println!(rt; "{name}: refused {number} at {place}")?;
-        }
+        Err(fault) => println!(rt; "{name}: {fault}")?,
     }
     Ok(())
 }
