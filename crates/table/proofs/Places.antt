@@ -1,12 +1,13 @@
 -- What stands at each place of a table, opened or not, and past the last place.
-use Rattle.std.proofs.Common.{◌≡◌, ℕ, ◌+◌, ◌-◌, ◌*◌, ◌<◌, ◌≤◌, true, false, List, [], ◌∷◌, length, get_or, pos, is_ok, sym, refl, ap, ◌∙◌, inl, inr, arith}
+use Rattle.std.proofs.Common.{◌≡◌, ℕ, ◌+◌, ◌-◌, ◌*◌, ◌<◌, ◌≤◌, true, false, List, [], ◌∷◌, length, get_or, pos, is_ok, sym, refl, ap, ◌∙◌, inl, inr, one-mul, arith, Option, None, Some, MatchOption}
 use Rattle.format.specs.Aggregates.{aggregate_at, first_member, member_count}
 use Rattle.layout.specs.Bytes.{byte_at}
 use Rattle.format.specs.Check.{accepted, counts_of, faults, none}
 use Rattle.format.specs.Faults.{verdict}
-use Rattle.layout.specs.Areas.{count, offset}
+use Rattle.layout.specs.Areas.{count, offset, size}
 use Rattle.format.specs.Rules.{aggregate_count, first_aggregate, first_literal, head_count, negative_count, positive_count, rule_at}
 use Rattle.format.specs.Statements.{name_at, statement_at}
+use Rattle.layout.specs.declared.records.Record.{Record}
 use Rattle.layout.specs.declared.area.Area.{Area}
 use Rattle.layout.specs.declared.area.Area.TheVariants.{Statements, Rules, Literals, Aggregates, Members, Names}
 use Rattle.refusal.specs.declared.Fault.{Fault}
@@ -22,7 +23,7 @@ use Rattle.table.proofs.Runs.{run_with}
 use Rattle.table.proofs.Slices.{slice_at}
 use Rattle.table.specs.Contents.{aggregate_held, aggregates_held, contents, held, literals_held, member_held, members_held, names_held, nothing, rule_held, rules_held, slice}
 use Rattle.table.specs.Limits.{MemberLimits, how_many}
-use Rattle.table.specs.View.{Covers, ShowsAggregate, ShowsRule, aggregate_read, count_held, kind_place, member_read, name_read, no_aggregate, no_member, no_rule, rule_read, run}
+use Rattle.table.specs.View.{Covers, ShowsRecord, ShowsAggregate, ShowsRule, aggregate_read, count_held, kind_place, member_read, name_read, no_aggregate, no_member, no_rule, rule_read, run}
 use Rattle.table.specs.declared.table.Run.{Run}
 
 -- The check says Ok exactly of accepted bytes.
@@ -72,6 +73,19 @@ many b a =
 pub kind_placed : (b : List ℕ) (j : ℕ) → j < length (contents b).aggregates → kind_place b j ≡ aggregate_at b j
 kind_placed b j l = sym (cond_below j (count_held b Aggregates) (aggregate_at b j) 0 (omega (arith, many b Aggregates)))
 
+-- a record is held only by a table that was opened
+held_below : (b : List ℕ) (area : Area) (i : ℕ) → i < count_held b area → (accepted b ≡ true) × (i < count b area)
+held_below b area i l =
+    elim (cases_Bool (accepted b)) [
+      | inl h ↦ (h, rw h at l)
+      | inr h ↦ absurd (omega (arith, rw h at l))
+    ]
+
+-- what holds past the last place, and of what is read from the record at a place, holds of what is read
+pub read_there : {X none : Type 0} {b : List ℕ} {i : ℕ} (area : Area) (o : Option Record) (read : List ℕ → ℕ → X) (r : X) (P : X → Type 0) → ShowsRecord b area i o → MatchOption o none (λ x. r ≡ read x.bytes.now x.at) → (count_held b area ≤ i → none → P r) → (accepted b ≡ true → i < count b area → P (read b (offset b area + size area * i))) → P r
+read_there area None read r P shown e past there = past shown e
+read_there {b = b} {i = i} area (Some x) read r P shown e past there = let h = held_below b area i shown.below in rw (e, shown.bytes, shown.at) (there h.0 h.1)
+
 -- Past the last place.
 abbrev no_run : Run
 no_run = record { first = 0; end = 0 }
@@ -112,13 +126,13 @@ module _ (b : List ℕ) (ok : accepted b ≡ true) where
   statements_known : length (contents b).names ≡ count b Statements
   statements_known = many_opened b Statements ok
 
-  pub shows_rule : (i at : ℕ) → i < count b Rules → at ≡ rule_at b i → ShowsRule (contents b) (get_or (contents b).rules i no_rule) (rule_read b at)
+  pub shows_rule : (i : ℕ) → i < count b Rules → ShowsRule (contents b) (get_or (contents b).rules i no_rule) (rule_read b (rule_at b i))
   unfolding rules_held
-  shows_rule i at l e =
+  shows_rule i l =
       let inside = literals_inside b faultless i l in
       let literals = literals_count b faultless in
       let first = first_literal b i in
-      rw (contents_held b ok, get_or-map-range_with_len (rule_held b) 0 (count b Rules) i i no_rule l (omega arith), e)
+      rw (contents_held b ok, get_or-map-range_with_len (rule_held b) 0 (count b Rules) i i no_rule l (omega arith))
       (record {
         head = covers_run (literals_held b) first (head_count b i) (omega arith);
         positive = covers_run (literals_held b) (first + head_count b i) (positive_count b i) (omega arith);
@@ -127,10 +141,10 @@ module _ (b : List ℕ) (ok : accepted b ≡ true) where
         adjacent = refl;
       })
 
-  pub shows_aggregate : (j at : ℕ) → j < count b Aggregates → at ≡ aggregate_at b j → ShowsAggregate (contents b) (get_or (contents b).aggregates j no_aggregate) (aggregate_read b at)
+  pub shows_aggregate : (j : ℕ) → j < count b Aggregates → ShowsAggregate (contents b) (get_or (contents b).aggregates j no_aggregate) (aggregate_read b (aggregate_at b j))
   unfolding aggregates_held
-  shows_aggregate j at l e =
-      rw (contents_held b ok, get_or-map-range_with_len (aggregate_held b) 0 (count b Aggregates) j j no_aggregate l (omega arith), e)
+  shows_aggregate j l =
+      rw (contents_held b ok, get_or-map-range_with_len (aggregate_held b) 0 (count b Aggregates) j j no_aggregate l (omega arith))
       (record {
         kind = refl;
         relation = refl;
@@ -139,29 +153,26 @@ module _ (b : List ℕ) (ok : accepted b ≡ true) where
         few = let h = (aggregate_fits b j (faultless.aggregate j l)).few in omega arith;
       })
 
-  literal_place : (k at : ℕ) → at ≡ offset b Literals + 1 * k → at ≡ offset b Literals + k
-  literal_place k at e = omega arith
-
-  pub literal_there : (k at : ℕ) → k < count b Literals → at ≡ offset b Literals + 1 * k → byte_at b at ≡ get_or (contents b).literals k 0
+  pub literal_there : (k : ℕ) → k < count b Literals → byte_at b (offset b Literals + 1 * k) ≡ get_or (contents b).literals k 0
   unfolding literals_held
-  literal_there k at l e =
-      rw (contents_held b ok, literal_place k at e) (sym (slice_at (offset b Literals) (count b Literals) b k 0 l))
+  literal_there k l =
+      rw (contents_held b ok, one-mul) (sym (slice_at (offset b Literals) (count b Literals) b k 0 l))
 
-  pub literal_known : (k at : ℕ) → k < count b Literals → at ≡ offset b Literals + 1 * k → byte_at b at < length (contents b).names
-  literal_known k at l e = rw (literal_place k at e) (omega (arith, literal_fits b k (faultless.literal k l), statements_known))
+  pub literal_known : (k : ℕ) → k < count b Literals → byte_at b (offset b Literals + 1 * k) < length (contents b).names
+  literal_known k l = rw one-mul (omega (arith, literal_fits b k (faultless.literal k l), statements_known))
 
-  pub member_there : (k at : ℕ) → k < count b Members → at ≡ offset b Members + 8 * k → member_read b at ≡ get_or (contents b).members k no_member
+  pub member_there : (k : ℕ) → k < count b Members → member_read b (offset b Members + 8 * k) ≡ get_or (contents b).members k no_member
   unfolding members_held
-  member_there k at l e =
-      rw (contents_held b ok, e) (sym (get_or-map-range_with_len (member_held b) 0 (count b Members) k k no_member l (omega arith)))
+  member_there k l =
+      rw (contents_held b ok) (sym (get_or-map-range_with_len (member_held b) 0 (count b Members) k k no_member l (omega arith)))
 
   -- every member is in the set of an aggregate
-  pub member_known : (k at : ℕ) → k < count b Members → at ≡ offset b Members + 8 * k → MemberLimits (length (contents b).names) (member_read b at)
-  member_known k at l e =
+  pub member_known : (k : ℕ) → k < count b Members → MemberLimits (length (contents b).names) (member_read b (offset b Members + 8 * k))
+  member_known k l =
       let p = run_with (count b Aggregates) (member_runs b faultless) k (omega (arith, faultless.members_filled)) in
-      rw (contents_held b ok, e, p.2.2) (member_limits b faultless p.0 p.2.0 p.1 p.2.1)
+      rw (contents_held b ok, p.2.2) (member_limits b faultless p.0 p.2.0 p.1 p.2.1)
 
-  pub name_there : (i at : ℕ) → i < count b Statements → at ≡ statement_at b i → name_read b at ≡ get_or (contents b).names i []
+  pub name_there : (i : ℕ) → i < count b Statements → name_read b (statement_at b i) ≡ get_or (contents b).names i []
   unfolding names_held
-  name_there i at l e =
-      rw (contents_held b ok, e) (sym (get_or-map-range_with_len (name_at b) 0 (count b Statements) i i [] l (omega arith)))
+  name_there i l =
+      rw (contents_held b ok) (sym (get_or-map-range_with_len (name_at b) 0 (count b Statements) i i [] l (omega arith)))

@@ -1,5 +1,5 @@
 -- What a reading of a table shows of its contents.
-use Rattle.std.specs.Prelude.{◌≡◌, ℕ, ◌+◌, ◌-◌, ◌*◌, ◌<◌, ◌≤◌, true, cond, List, [], length, pos, Option, MatchOption, nat_lt}
+use Rattle.std.specs.Prelude.{◌≡◌, ℕ, ◌+◌, ◌-◌, ◌*◌, ◌<◌, ◌≤◌, cond, List, [], length, pos, Option, MatchOption, nat_lt}
 use Rattle.layout.specs.Bytes.{byte_at, whole_at, word_at}
 use Rattle.format.specs.Aggregates.{aggregate_at}
 use Rattle.format.specs.Check.{accepted}
@@ -10,6 +10,7 @@ use Rattle.semantics.specs.Programs.{Aggregate, Rule}
 use Rattle.semantics.specs.declared.Member.{Member}
 use Rattle.semantics.specs.declared.Relation.TheVariants.{Less}
 use Rattle.table.specs.Contents.{Contents, relation_of, slice}
+use Rattle.layout.specs.declared.records.Record.{Record}
 use Rattle.table.specs.declared.table.AggregateView.{AggregateView}
 use Rattle.table.specs.declared.table.RuleView.{RuleView}
 use Rattle.table.specs.declared.table.Run.{Run}
@@ -74,9 +75,15 @@ member_read b at = record { statement = byte_at b at; weight = whole_at b (at + 
 abbrev pub count_held : List ℕ → Area → ℕ
 count_held b area = cond (accepted b) (count b area) 0
 
--- the place of record i of an area, or none past the last one and in a table that is not opened
-abbrev pub Placed : List ℕ → Area → ℕ → Option ℕ → Type 0
-Placed b area i r = MatchOption r (cond (accepted b) (count b area) 0 ≤ i) (λ at. (accepted b ≡ true) × (i < count b area) × (at ≡ offset b area + size area * i))
+-- x is record i of an area of a table
+pub record IsRecord (b : List ℕ) (area : Area) (i : ℕ) (x : Record) : Type 0 where
+  pub below : i < count_held b area
+  pub bytes : x.bytes.now ≡ b
+  pub at : x.at ≡ offset b area + size area * i
+
+-- record i of an area, or none past the last one and in a table that is not opened
+abbrev pub ShowsRecord : List ℕ → Area → ℕ → Option Record → Type 0
+ShowsRecord b area i r = MatchOption r (count_held b area ≤ i) (IsRecord b area i)
 
 -- the place of the kind of aggregate j, which its record begins with; past the last one, 0
 abbrev pub kind_place : List ℕ → ℕ → ℕ

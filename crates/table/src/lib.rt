@@ -1,6 +1,4 @@
 #![tactic(auto)]
 
-mod reading;
 pub mod table;
 mod theorems;
-mod view;

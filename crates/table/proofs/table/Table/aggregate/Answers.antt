@@ -1,8 +1,10 @@
-use Rattle.table.proofs.Places.{shows_aggregate, shows_no_aggregate}
+use Rattle.layout.specs.declared.area.Area.TheVariants.{Aggregates}
+use Rattle.table.proofs.Places.{read_there, shows_aggregate, shows_no_aggregate}
 use Rattle.table.proofs.table.Table.aggregate.Goals as goal
+use Rattle.table.specs.View.{ShowsAggregate, aggregate_read}
 
-pub returns-in-Some : goal.returns-in-Some
-returns-in-Some c = let p = c.in-Some.ensures in rw c.read_aggregate.ensures (shows_aggregate _ p.0 c.args.j c.in-Some.at p.1 p.2)
-
-pub returns-in-None : goal.returns-in-None
-returns-in-None c = shows_no_aggregate _ c.args.j c.in-None.ensures
+pub returns : goal.returns
+returns c =
+    read_there Aggregates c.record.result aggregate_read _ (ShowsAggregate _ _) c.record.ensures c.map_or.ensures
+    (λ past e. rw e (shows_no_aggregate _ c.args.j past))
+    (λ ok l. shows_aggregate _ ok c.args.j l)

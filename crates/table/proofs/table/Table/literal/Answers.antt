@@ -1,15 +1,20 @@
+use Rattle.layout.specs.declared.area.Area.TheVariants.{Literals}
+use Rattle.std.proofs.Common.{◌≡◌, ◌<◌, ◌∙◌, sym, arith, length, slice_index}
 use Rattle.std.proofs.lemmas.List.{get_or_past}
-use Rattle.table.proofs.Places.{literal_known, literal_there, past_literals}
+use Rattle.layout.specs.Bytes.{byte_at}
+use Rattle.table.proofs.Places.{literal_known, literal_there, past_literals, read_there}
 use Rattle.table.proofs.table.Table.literal.Goals as goal
-use Rattle.std.proofs.Common.{sym, ◌∙◌, arith}
+use Rattle.table.specs.Tables.{contents_of}
 
-pub returns-in-Some : goal.returns-in-Some
-returns-in-Some c =
-    let p = c.in-Some.ensures in
-    let known = literal_known _ p.0 c.args.k c.in-Some.at p.1 p.2 in
-    record { value = c.read_literal.ensures ∙ literal_there _ p.0 c.args.k c.in-Some.at p.1 p.2; known = λ _. rw c.read_literal.ensures known }
-
-pub returns-in-None : goal.returns-in-None
-returns-in-None c =
-    let past = past_literals _ c.args.k c.in-None.ensures in
-    record { value = sym (get_or_past _ c.args.k 0 past); known = λ h. absurd (omega arith) }
+pub returns : goal.returns
+returns c =
+    let k = c.args.k in
+    let held = contents_of c.args.self.now in
+    record {
+      value = read_there Literals c.record.result byte_at _ (λ r. r ≡ slice_index held.literals k) c.record.ensures c.map_or.ensures
+          (λ past e. e ∙ sym (get_or_past _ k 0 (past_literals _ k past)))
+          (λ ok l. literal_there _ ok k l);
+      known = λ inside. read_there Literals c.record.result byte_at _ (λ r. r < length held.names) c.record.ensures c.map_or.ensures
+          (λ past e. let none = past_literals _ k past in absurd (omega arith))
+          (λ ok l. literal_known _ ok k l);
+    }

@@ -1,9 +1,15 @@
-use Rattle.table.proofs.Places.{name_there, past_names}
+use Rattle.layout.specs.declared.area.Area.TheVariants.{Statements}
+use Rattle.std.proofs.Common.{◌≡◌, ◌∙◌, ap, [], slice_index_or}
+use Rattle.table.proofs.Places.{name_there, past_names, read_there}
 use Rattle.table.proofs.table.Table.name.Goals as goal
-use Rattle.std.proofs.Common.{◌∙◌}
+use Rattle.table.specs.Tables.{contents_of}
+use Rattle.table.specs.View.{name_read}
 
-pub returns-in-Some : goal.returns-in-Some
-returns-in-Some c = let p = c.in-Some.ensures in c.read_name.ensures ∙ name_there _ p.0 c.args.statement c.in-Some.at p.1 p.2
-
-pub returns-in-None : goal.returns-in-None
-returns-in-None c = past_names _ c.args.statement c.in-None.ensures
+pub returns : goal.returns
+returns c =
+    let i = c.from.result in
+    let held = contents_of c.args.self.now in
+    rw (← c.from.ensures)
+    (read_there Statements c.record.result name_read _ (λ r. r ≡ slice_index_or held.names i []) c.record.ensures c.map_or.ensures
+    (λ past e. ap (λ name. name.now) e ∙ past_names _ i past)
+    (λ ok l. name_there _ ok i l))
