@@ -3,7 +3,7 @@ ghost use Rattle.std.specs.Prelude.{◌≡◌, ◌++◌, IfOk, Some, string_byte
 ghost use Rattle.table.specs.Tables.{contents_of};
 
 use super::rules::Rule;
-use format::check::{Counts, check};
+use format::check::Counts;
 use refusal::Fault;
 use std::alloc::{AllocError, Global};
 use std::fmt;
@@ -66,11 +66,13 @@ fn table_text(heap: Global, table: Table, counts: Counts) -> Result<String, Allo
 }
 
 // The bytes of a table as people read them: why they are refused, or their counts and rules.
+#[tactic(auto, using(crate::proofs::Reports::fault_shown))]
 pub fn shown(heap: Global, bytes: &[u8]) -> Result<String, AllocError>
     ensures { IfOk result (λ s. string_bytes s ≡ shown bytes.now) }
 {
-    match check(bytes) {
-        Ok(counts) => table_text(heap, Table::open(bytes), counts),
+    let table = Table::open(bytes);
+    match table.counts() {
+        Ok(counts) => table_text(heap, table, counts),
         Err(fault) => fault_text(heap, fault),
     }
 }
