@@ -1,4 +1,3 @@
-ghost use Rattle.marking.specs.Marks.{marks_of};
 ghost use Rattle.notation.specs.Marks.{marks_text};
 ghost use Rattle.notation.specs.Shown.{newline};
 ghost use Rattle.semantics.specs.Words.{mark_text};
@@ -20,7 +19,7 @@ struct Marks<'a> {
 }
 
 impl fmt::Display for Marks<'_> {
-    ghost output = { λ m. Some (marks_text (contents_of m.table).names (marks_of m.marking.now)) };
+    ghost output = { λ m. Some (marks_text (contents_of m.table).names m.marking.now) };
 
     fn fmt<W: fmt::Write>(&self, f: &mut fmt::Formatter<W>) -> fmt::Result {
         for statement in 0..self.table.statements() {
@@ -34,7 +33,7 @@ impl fmt::Display for Marks<'_> {
 
 // What is known of each statement of the table, one a line. Those that the marking lacks are open.
 pub fn marks_text(heap: Global, table: &Table, marking: &Marking) -> Result<String, AllocError>
-    ensures { IfOk result (λ s. string_bytes s ≡ marks_text (contents_of table.now).names (marks_of marking.now)) }
+    ensures { IfOk result (λ s. string_bytes s ≡ marks_text (contents_of table.now).names marking.now) }
 {
     let table = *table;
     Marks { table, marking }.to_string(heap)

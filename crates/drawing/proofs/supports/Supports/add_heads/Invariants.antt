@@ -1,5 +1,5 @@
 use Rattle.std.proofs.Common.{◌≡◌, ◌≤◌, length}
-use Rattle.drawing.proofs.tables.Supports.add_heads.Given as goal
+use Rattle.drawing.proofs.supports.Supports.add_heads.Given as goal
 use Rattle.drawing.specs.Supports.{added}
 use Rattle.table.proofs.Tails.{tail}
 use Rattle.table.specs.Tables.{contents_of}
