@@ -1,11 +1,9 @@
 -- Pieces of text in a row.
-use Rattle.std.proofs.Common.{◌≡◌, ℕ, zero, suc, ◌+◌, ◌-◌, ◌<◌, ◌≤◌, leb, List, [], ◌∷◌, ◌++◌, map, sym, refl, ap, ◌∙◌, append_assoc, append-nil, arith}
-use Rattle.notation.specs.Pieces.{between, none, places}
+use Rattle.std.proofs.Common.{◌≡◌, ℕ, suc, ◌+◌, ◌-◌, ◌<◌, ◌≤◌, List, [], ◌∷◌, ◌++◌, map, sym, refl, ap, ◌∙◌, append_assoc, append-nil, arith}
+use Rattle.notation.specs.Pieces.{between}
 use Rattle.notation.specs.Text.{joined, sign_text}
 use Rattle.std.proofs.lemmas.List.FromFn.{map-range_with_len_more}
-use Rattle.std.proofs.lemmas.Bool.{lt-leb}
 use Rattle.std.specs.List.{range_with_len}
-use Rattle.table.specs.declared.table.Run.{Run}
 
 -- two rows, one after the other
 joined_rows : (sign : List ℕ) (xs ys : List (List ℕ)) → joined sign (xs ++ ys) ≡ joined sign xs ++ (between sign xs ys ++ joined sign ys)
@@ -29,18 +27,10 @@ module _ (sign : List ℕ) (piece : ℕ → List ℕ) (from : ℕ) where
       let z : k - from ≡ 0 = omega arith in
       row_more k h ∙ ap (λ m. row k ++ (between sign (map piece (range_with_len from m)) (piece k ∷ []) ++ piece k)) z
 
-  pub row_goes_on : (k : ℕ) → from < k → row (k + 1) ≡ row k ++ (sign ++ piece k)
+  pub row_goes_on : (k : ℕ) → from < k → row (k + 1) ≡ (row k ++ sign) ++ piece k
   row_goes_on k h =
       let n : k - from ≡ suc (k - from - 1) = omega arith in
-      row_more k (omega arith) ∙ ap (λ m. row k ++ (between sign (map piece (range_with_len from m)) (piece k ∷ []) ++ piece k)) n
-
--- whether a run has a place
-none_counting : (a n : ℕ) → none (range_with_len a n) ≡ leb n 0
-none_counting a zero = refl
-none_counting a (suc n) = sym (lt-leb (suc n) 0 (omega arith))
-
-pub none_places : (r : Run) → leb r.end r.first ≡ none (places r)
-none_places r = rw (none_counting r.first (r.end - r.first)) (grind arith)
+      row_more k (omega arith) ∙ ap (λ m. row k ++ (between sign (map piece (range_with_len from m)) (piece k ∷ []) ++ piece k)) n ∙ sym (append_assoc (row k) sign (piece k))
 
 -- a sign asks only whether there is something, and a map does not change that
 pub sign_mapped : {X Y : Type 0} (f : ℕ → X) (g h : ℕ → Y) (xs ys zs : List ℕ) → sign_text xs (ys ++ zs) ≡ sign_text (map f xs) (map g ys ++ map h zs)
