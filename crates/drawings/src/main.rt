@@ -21,7 +21,7 @@ struct Case {
     bytes: Vec<u8>,
 }
 
-// Stays here and in `refusals`: a crate that both name would be longer than these lines.
+// Adds the bytes of a word. This stays beside its like in `refusals`: a crate of both would be longer than these lines.
 fn push_bytes(bytes: &mut Vec<u8>, word: &str) -> anyhow::Result<()> {
     let (digits, times) = word.split_once('*').unwrap_or((word, "1"));
     let part = hex::decode(*bytes.allocator(), digits)?;

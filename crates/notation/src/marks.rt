@@ -1,17 +1,14 @@
 ghost use Rattle.notation.specs.Marks.{marks_text};
-ghost use Rattle.notation.specs.Shown.{newline};
-ghost use Rattle.semantics.specs.Words.{mark_text};
-ghost use Rattle.std.specs.Prelude.{◌≡◌, ◌++◌, IfOk, Some, codes, string_bytes};
+ghost use Rattle.std.specs.Prelude.{◌≡◌, IfOk, Some, string_bytes};
 ghost use Rattle.table.specs.Tables.{contents_of};
 
 use super::words::name;
 use marking::Marking;
-use semantics::Mark;
 use std::alloc::{AllocError, Global};
 use std::fmt;
 use table::table::Table;
 
-// What is known of each statement of the table, one a line.
+// A table's statements with what a marking says of them, one a line.
 #[derive(Clone, Copy)]
 struct Marks<'a> {
     table: Table<'a>,

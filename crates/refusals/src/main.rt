@@ -5,7 +5,7 @@ use format::check::{Counts, check};
 // Says of each case what the check says of its bytes. A case is a line: a name, then bytes in hexadecimal, where
 // `00ff*3` stands for `00ff` three times.
 
-// Stays here and in `drawings`: a crate that both name would be longer than these lines.
+// Adds the bytes of a word. This stays beside its like in `drawings`: a crate of both would be longer than these lines.
 fn push_bytes(bytes: &mut Vec<u8>, word: &str) -> anyhow::Result<()> {
     let (digits, times) = word.split_once('*').unwrap_or((word, "1"));
     let part = hex::decode(*bytes.allocator(), digits)?;
