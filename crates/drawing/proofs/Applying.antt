@@ -1,5 +1,5 @@
 -- Marking what is wanted, once and again.
-use Rattle.std.proofs.Common.{◌≡◌, ℕ, ◌+◌, ◌<◌, ◌≤◌, Bool, true, ◌⊎◌, List, length, get_or, set, is_err, Ok, Err, Option, Result, sym, ap, ◌∙◌, subst, inl, inr, ⊎_elim, arith}
+use Rattle.std.proofs.Common.{◌≡◌, ℕ, ◌+◌, ◌<◌, ◌≤◌, Bool, true, ◌⊎◌, List, length, get_or, set, is_err, Some, None, Ok, Err, Option, Result, sym, ap, ◌∙◌, subst, inl, inr, ⊎_elim, arith}
 use Rattle.drawing.proofs.Deriving.{derived_between, derived_mark, derived_on, derived_same, failed_against, failed_before, wanted_stays}
 use Rattle.drawing.specs.Applying.{Applied, EachOther, Forced, IsMarked, Other}
 use Rattle.drawing.specs.Deriving.{Derived, Failed, Wanted}
@@ -11,6 +11,14 @@ use Rattle.semantics.specs.declared.Mark.{Mark}
 use Rattle.semantics.specs.declared.Mark.TheVariants.{Open}
 use Rattle.std.proofs.lemmas.List.{get_or-set_same, set_past}
 use Rattle.std.proofs.lemmas.Bool.{cases_lt, false≢true}
+
+pub left_out : (except : Option ℕ) (q : ℕ) → except ≡ Some q → Other except q → ⊥
+left_out None q e o = cc
+left_out (Some p) q e o = o (cc)
+
+pub not_left_out : (except : Option ℕ) (q : ℕ) → (except ≡ Some q → ⊥) → Other except q
+not_left_out None q n = tt
+not_left_out (Some p) q n = λ e. n (ap Some (sym e))
 
 module _ (value : Values) (p : Program) where
   -- nothing is marked, and so much is known
@@ -36,7 +44,7 @@ module _ (value : Values) (p : Program) where
     marked_open o (inl l) = derived_mark value p m q x l o w
     marked_open o (inr l) = subst (Derived value p m) (sym (set_past m q (marked x) l)) (derived_same value p m)
 
-    pub applied_forced : (n : List Mark) (r : Result (Unit {0}) Clash) → Forced m n q x r → Applied value p m n r (IsMarked m x q)
+    pub applied_forced : (n : List Mark) (r : Result (Unit {0}) Clash) → Forced m n (record { statement = q; present = x }) r → Applied value p m n r (IsMarked m x q)
     applied_forced n (Ok _) (inl (o, e)) =
         (subst (Derived value p m) (sym e) (marked_open o (cases_lt q (length m))), λ same l. ap (λ k. at k q) (sym same ∙ e) ∙ get_or-set_same m q (marked x) Open l)
     applied_forced n (Ok _) (inr (h, e)) = (subst (Derived value p m) (sym e) (derived_same value p m), λ same l. h)

@@ -2,6 +2,7 @@
 use Rattle.std.specs.Prelude.{◌≡◌, ℕ, ◌<◌, ◌≤◌, Bool, not, ◌⊎◌, List, length, Some, None, Ok, Err, Option, Result, slice_index, slice_set}
 use Rattle.drawing.specs.Deriving.{Derived, Failed}
 use Rattle.drawing.specs.declared.forcing.Clash.{Clash}
+use Rattle.judging.specs.declared.literals.Literal.{Literal}
 use Rattle.semantics.specs.Families.{Values}
 use Rattle.semantics.specs.Markings.{at, marked}
 use Rattle.semantics.specs.Programs.{Program}
@@ -14,9 +15,9 @@ Applied value p m n (Ok _) Done = Derived value p m n × (n ≡ m → Done)
 Applied value p m n (Err _) Done = Failed value p m
 
 -- an open statement is marked, one that is so marked already is left, and one with the contrary mark is a clash
-abbrev pub Forced : List Mark → List Mark → ℕ → Bool → Result (Unit {0}) Clash → Type 0
-Forced m n q x (Ok _) = ((at m q ≡ Open) × (n ≡ slice_set m q (marked x))) ⊎ ((at m q ≡ marked x) × (n ≡ m))
-Forced m n q x (Err _) = at m q ≡ marked (not x)
+abbrev pub Forced : List Mark → List Mark → Literal → Result (Unit {0}) Clash → Type 0
+Forced m n l (Ok _) = ((at m l.statement ≡ Open) × (n ≡ slice_set m l.statement (marked l.present))) ⊎ ((at m l.statement ≡ marked l.present) × (n ≡ m))
+Forced m n l (Err _) = at m l.statement ≡ marked (not l.present)
 
 -- not the statement that is left out
 abbrev pub Other : Option ℕ → ℕ → Type 0

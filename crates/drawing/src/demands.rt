@@ -1,7 +1,6 @@
 ghost use Rattle.drawing.specs.Applying.{Applied};
 ghost use Rattle.drawing.specs.Demands.{Demanded, demand_of};
 ghost use Rattle.drawing.specs.Passing.{RulePassed};
-ghost use Rattle.marking.specs.Marks.{marks_of};
 ghost use Rattle.semantics.specs.Families.{Values};
 ghost use Rattle.semantics.specs.Programs.{Program, Rule};
 ghost use Rattle.std.specs.Prelude.{◌≡◌};
@@ -10,39 +9,31 @@ use super::forcing::{Clash, force};
 use judging::{Body, Literal, Literals};
 use marking::Marking;
 
-// What a rule demands by the first and the third step: it is broken, wants a statement in or out, or demands nothing.
-#[derive(Clone, Copy)]
-pub(crate) enum Demand {
-    Broken,
-    Wants(Literal),
-    Nothing,
-}
-
-// The demand of a rule with this body and this head, judged by its statements being out.
-pub(crate) fn demand_of(body: Body, head: Literals) -> Demand
+// What a rule with this body and this head, judged by its statements being out, demands by the first and the third step:
+// a literal, or nothing. A rule that is broken is a clash.
+pub(crate) fn demand_of(body: Body, head: Literals) -> Result<Option<Literal>, Clash>
     ensures { result ≡ demand_of body head }
 {
     match (body, head) {
-        (Body::Certain, Literals::Met) => Demand::Broken,
-        (Body::Certain, Literals::OneOpen(last)) => Demand::Wants(Literal {
+        (Body::Certain, Literals::Met) => Err(Clash),
+        (Body::Certain, Literals::OneOpen(last)) => Ok(Some(Literal {
             statement: last.statement,
             present: true,
-        }),
-        (Body::ButFor(last), Literals::Met) => Demand::Wants(Literal {
+        })),
+        (Body::ButFor(last), Literals::Met) => Ok(Some(Literal {
             statement: last.statement,
             present: !last.present,
-        }),
-        _ => Demand::Nothing,
+        })),
+        _ => Ok(None),
     }
 }
 
 // Meets the demand of a rule.
-pub(crate) fn meet(marking: &mut Marking, demand: Demand) -> Result<(), Clash>
-    ensures { (value : Values) (p : Program) (g : Rule) → Demanded value p (marks_of marking.old) g demand → Applied value p (marks_of marking.old) (marks_of marking.new) result (RulePassed value (marks_of marking.old) g) }
+pub(crate) fn meet(marking: &mut Marking, body: Body, head: Literals) -> Result<(), Clash>
+    ensures { (value : Values) (p : Program) (g : Rule) → Demanded value p marking.old g (demand_of body head) → Applied value p marking.old marking.new result (RulePassed value marking.old g) }
 {
-    match demand {
-        Demand::Broken => Err(Clash),
-        Demand::Wants(literal) => force(marking, literal.statement, literal.present),
-        Demand::Nothing => Ok(()),
+    match demand_of(body, head)? {
+        Some(literal) => force(marking, literal),
+        None => Ok(()),
     }
 }

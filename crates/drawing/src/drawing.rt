@@ -1,5 +1,4 @@
 ghost use Rattle.drawing.specs.Drawings.{Draws, DrawsFrom, KeepsAccounts, KeepsAnswers};
-ghost use Rattle.marking.specs.Marks.{marks_of};
 ghost use Rattle.semantics.specs.AnswerSets.{AgreesWith};
 ghost use Rattle.semantics.specs.Markings.{Agrees, noted};
 ghost use Rattle.table.specs.Contents.{program};
@@ -8,14 +7,15 @@ ghost use Rattle.std.specs.Prelude.{◌≡◌, Bool, List};
 
 use super::sweeping::settle;
 use family::Family;
+use judging::Rulebook;
 use marking::Marking;
 use semantics::Finding;
 use table::table::Table;
 
 // The marking of the findings, with which every row agrees that agrees with them.
 fn start(table: &Table, findings: &[Finding]) -> Marking
-    ensures noted { marks_of result ≡ noted (program (contents_of table.now)) findings.now }
-    ensures agreed { (s : List Bool) → AgreesWith findings.now s → Agrees (marks_of result) s }
+    ensures noted { result ≡ noted (program (contents_of table.now)) findings.now }
+    ensures agreed { (s : List Bool) → AgreesWith findings.now s → Agrees result s }
 {
     Marking::noted(table.statements(), findings)
 }
@@ -23,14 +23,14 @@ fn start(table: &Table, findings: &[Finding]) -> Marking
 // Draws what a marking forces: the settled marking that steps reach from it, or none where they reach none. It loses no
 // answer set that agrees with the start.
 pub fn draw_from<F: Family>(table: &Table, family: &F, start: Marking) -> Option<Marking>
-    ensures drawn { DrawsFrom (F.value family.now) (program (contents_of table.now)) (marks_of start) result }
-    ensures answers { KeepsAnswers (F.value family.now) (program (contents_of table.now)) (marks_of start) result }
+    ensures drawn { DrawsFrom (F.value family.now) (program (contents_of table.now)) start result }
+    ensures answers { KeepsAnswers (F.value family.now) (program (contents_of table.now)) start result }
 {
     let mut marking = start;
-    match settle(table, family, &mut marking) {
-        Ok(()) => Some(marking),
-        Err(_) => None,
-    }
+    let Ok(()) = settle(&Rulebook { table, family }, &mut marking) else {
+        return None;
+    };
+    Some(marking)
 }
 
 // Draws what the findings force: the settled marking that steps reach from them, or none where they clash. It marks in

@@ -1,7 +1,6 @@
 ghost use Rattle.drawing.specs.Applying.{Applied};
 ghost use Rattle.drawing.specs.Passing.{Explained};
 ghost use Rattle.drawing.specs.Supports.{OneSupport};
-ghost use Rattle.marking.specs.Marks.{marks_of};
 ghost use Rattle.semantics.specs.Families.{Values};
 ghost use Rattle.semantics.specs.Markings.{at};
 ghost use Rattle.semantics.specs.declared.Mark.TheVariants.{In};
@@ -22,7 +21,7 @@ pub(crate) fn explain(
     statement: u16,
     rule: usize,
 ) -> Result<(), Clash>
-    ensures { (value : Values) → OneSupport value (contents_of table.now).rules (length (contents_of table.now).rules) (marks_of marking.old) statement rule → at (marks_of marking.old) statement ≡ In → Applied value (program (contents_of table.now)) (marks_of marking.old) (marks_of marking.new) result (Explained (marks_of marking.old) (slice_index_or (contents_of table.now).rules rule no_rule) statement) }
+    ensures { (value : Values) → OneSupport value (contents_of table.now).rules (length (contents_of table.now).rules) marking.old statement rule → at marking.old statement ≡ In → Applied value (program (contents_of table.now)) marking.old marking.new result (Explained marking.old (slice_index_or (contents_of table.now).rules rule no_rule) statement) }
 {
     let rule = table.rule(rule);
     force_run(table, marking, rule.positive, true, None)?;

@@ -1,12 +1,11 @@
 ghost use Rattle.drawing.specs.Applying.{Applied, EachOther, Forced, IsMarked, Other};
 ghost use Rattle.drawing.specs.Deriving.{Wanted};
-ghost use Rattle.marking.specs.Marks.{marks_of};
 ghost use Rattle.semantics.specs.Families.{Values};
 ghost use Rattle.semantics.specs.Programs.{Program};
-ghost use Rattle.std.specs.Prelude.{Decides};
 ghost use Rattle.table.specs.Tables.{contents_of};
 
-use marking::{Marking, mark_of};
+use judging::Literal;
+use marking::Marking;
 use semantics::Mark;
 use table::table::{Run, Table};
 
@@ -14,45 +13,30 @@ use table::table::{Run, Table};
 #[derive(Clone, Copy)]
 pub(crate) struct Clash;
 
-// Marks a statement where it is open; against its mark it is a clash.
-pub(crate) fn force(marking: &mut Marking, statement: u16, present: bool) -> Result<(), Clash>
-    ensures { Forced (marks_of marking.old) (marks_of marking.new) statement present result }
+// Marks the statement of a literal where it is open; against its mark it is a clash.
+pub(crate) fn force(marking: &mut Marking, literal: Literal) -> Result<(), Clash>
+    ensures { Forced marking.old marking.new literal result }
 {
-    match (marking.mark(statement), present) {
-        (Mark::Open, _) => {
-            marking.set(statement, mark_of(present));
-            Ok(())
-        }
-        (Mark::In, true) => Ok(()),
-        (Mark::Out, false) => Ok(()),
-        (Mark::In, false) => Err(Clash),
-        (Mark::Out, true) => Err(Clash),
-    }
-}
-
-// Whether a statement is not the one that is left out.
-fn is_other(except: Option<u16>, statement: u16) -> bool
-    ensures { Decides result (Other except statement) }
-{
-    match except {
-        None => true,
-        Some(other) => statement != other,
-    }
-}
-
-// Marks a statement that is wanted so, unless it is the one that is left out.
-fn force_other(
-    marking: &mut Marking,
-    statement: u16,
-    present: bool,
-    except: Option<u16>,
-) -> Result<(), Clash>
-    ensures { (value : Values) (p : Program) → (Other except statement → Wanted value p (marks_of marking.old) statement present) → Applied value p (marks_of marking.old) (marks_of marking.new) result (Other except statement → IsMarked (marks_of marking.old) present statement) }
-{
-    if is_other(except, statement) {
-        force(marking, statement, present)
-    } else {
+    let mark = marking.mark(literal.statement);
+    let wanted = Mark::from(literal.present);
+    if mark == wanted {
         Ok(())
+    } else if mark == Mark::Open {
+        marking.set(literal.statement, wanted);
+        Ok(())
+    } else {
+        Err(Clash)
+    }
+}
+
+// Marks the statement of a literal that is wanted, unless it is the one that is left out.
+fn force_other(marking: &mut Marking, literal: Literal, except: Option<u16>) -> Result<(), Clash>
+    ensures { (value : Values) (p : Program) → (Other except literal.statement → Wanted value p marking.old literal.statement literal.present) → Applied value p marking.old marking.new result (Other except literal.statement → IsMarked marking.old literal.present literal.statement) }
+{
+    if except == Some(literal.statement) {
+        Ok(())
+    } else {
+        force(marking, literal)
     }
 }
 
@@ -64,10 +48,11 @@ pub(crate) fn force_run(
     present: bool,
     except: Option<u16>,
 ) -> Result<(), Clash>
-    ensures { (value : Values) (p : Program) → EachOther (λ q. Wanted value p (marks_of marking.old) q present) (contents_of table.now).literals run.first run.end except → Applied value p (marks_of marking.old) (marks_of marking.new) result (EachOther (IsMarked (marks_of marking.old) present) (contents_of table.now).literals run.first run.end except) }
+    ensures { (value : Values) (p : Program) → EachOther (λ q. Wanted value p marking.old q present) (contents_of table.now).literals run.first run.end except → Applied value p marking.old marking.new result (EachOther (IsMarked marking.old present) (contents_of table.now).literals run.first run.end except) }
 {
     for k in run.first..run.end {
-        force_other(marking, table.literal(k), present, except)?;
+        let statement = table.literal(k);
+        force_other(marking, Literal { statement, present }, except)?;
     }
     Ok(())
 }

@@ -8,6 +8,5 @@ mod rules;
 mod statements;
 mod supports;
 mod sweeping;
-mod tables;
 
 pub use drawing::{draw, draw_from};

@@ -1,50 +1,47 @@
-ghost use Rattle.std.specs.Prelude.{◌<◌, length, slice_index_or};
+ghost use Rattle.std.specs.Prelude.{◌<◌, length};
 ghost use Rattle.drawing.specs.Applying.{Applied};
 ghost use Rattle.drawing.specs.Passing.{RulePassed};
 ghost use Rattle.drawing.specs.Sweeps.{AllStanding, Counted, CountedMore, RulesDone};
-ghost use Rattle.marking.specs.Marks.{marks_of};
-ghost use Rattle.table.specs.Contents.{program};
-ghost use Rattle.table.specs.Tables.{contents_of};
-ghost use Rattle.table.specs.View.{no_rule};
+ghost use Rattle.judging.specs.Rulebooks.{program_of, rule_of};
 
-use super::demands::{demand_of, meet};
+use super::demands::meet;
 use super::forcing::Clash;
-use super::tables::Supports;
+use super::supports::Supports;
 use family::Family;
-use judging::{Body, judge_body, judge_head};
+use judging::{Body, Rulebook};
 use marking::Marking;
-use table::table::Table;
+
+// What a sweep changes, the marking and the supports, stays apart from the rulebook, which it only reads: a struct of all
+// three would have each method promise that the rules are as before.
 
 // Applies the first and the third step to rule i, and counts it for the statements of its head unless it is refuted.
 fn apply_rule<F: Family>(
-    table: &Table,
-    family: &F,
+    book: &Rulebook<F>,
     marking: &mut Marking,
     supports: &mut Supports,
     i: usize,
 ) -> Result<(), Clash>
-    ensures applied { i < length (contents_of table.now).rules → Applied (F.value family.now) (program (contents_of table.now)) (marks_of marking.old) (marks_of marking.new) result (RulePassed (F.value family.now) (marks_of marking.old) (slice_index_or (contents_of table.now).rules i no_rule)) }
-    ensures counted { i < length (contents_of table.now).rules → CountedMore (F.value family.now) (contents_of table.now).rules i (marks_of marking.old) supports.old.by supports.new.by }
+    ensures applied { i < length (program_of book.now).rules → Applied (F.value book.now.family.now) (program_of book.now) marking.old marking.new result (RulePassed (F.value book.now.family.now) marking.old (rule_of book.now i)) }
+    ensures counted { i < length (program_of book.now).rules → CountedMore (F.value book.now.family.now) (program_of book.now).rules i marking.old supports.old.by supports.new.by }
 {
-    let body = judge_body(table, family, marking, i);
-    if let Body::Refuted = body {
+    let body = book.judge_body(marking, i);
+    if body == Body::Refuted {
         return Ok(());
     }
-    supports.add_heads(table, table.rule(i).head, i);
-    meet(marking, demand_of(body, judge_head(table, marking, i)))
+    supports.add_heads(book.table, book.table.rule(i).head, i);
+    meet(marking, body, book.judge_head(marking, i))
 }
 
 // Applies the first and the third step to each rule in turn, and counts for each statement the rules that are left.
 pub(crate) fn apply_rules<F: Family>(
-    table: &Table,
-    family: &F,
+    book: &Rulebook<F>,
     marking: &mut Marking,
     supports: &mut Supports,
 ) -> Result<(), Clash>
-    ensures { Counted (F.value family.now) (contents_of table.now).rules 0 (marks_of marking.old) supports.old.by → AllStanding (F.value family.now) (contents_of table.now).rules (marks_of marking.old) supports.old.by → RulesDone (F.value family.now) (program (contents_of table.now)) (marks_of marking.old) (marks_of marking.new) supports.new.by result }
+    ensures { Counted (F.value book.now.family.now) (program_of book.now).rules 0 marking.old supports.old.by → AllStanding (F.value book.now.family.now) (program_of book.now).rules marking.old supports.old.by → RulesDone (F.value book.now.family.now) (program_of book.now) marking.old marking.new supports.new.by result }
 {
-    for i in 0..table.rules() {
-        apply_rule(table, family, marking, supports, i)?;
+    for i in 0..book.table.rules() {
+        apply_rule(book, marking, supports, i)?;
     }
     Ok(())
 }

@@ -3,15 +3,14 @@ ghost use Rattle.drawing.specs.Applying.{Applied};
 ghost use Rattle.drawing.specs.Passing.{StatementPassed};
 ghost use Rattle.drawing.specs.Supports.{Standing, SupportIs};
 ghost use Rattle.drawing.specs.Sweeps.{Counted, StatementsPassed};
-ghost use Rattle.marking.specs.Marks.{marks_of};
 ghost use Rattle.semantics.specs.Families.{Values};
 ghost use Rattle.table.specs.Contents.{program};
 ghost use Rattle.table.specs.Tables.{contents_of};
 
 use super::explaining::explain;
 use super::forcing::{Clash, force};
-use super::supports::Support;
-use super::tables::Supports;
+use super::supports::{Support, Supports};
+use judging::Literal;
 use marking::Marking;
 use semantics::Mark;
 use table::table::Table;
@@ -23,15 +22,23 @@ fn apply_statement(
     support: Support,
     statement: u16,
 ) -> Result<(), Clash>
-    ensures { (value : Values) → SupportIs value (contents_of table.now).rules (length (contents_of table.now).rules) (marks_of marking.old) statement support → Applied value (program (contents_of table.now)) (marks_of marking.old) (marks_of marking.new) result (Standing value (contents_of table.now).rules (marks_of marking.old) statement support → StatementPassed value (contents_of table.now).rules (marks_of marking.old) statement) }
+    ensures { (value : Values) → SupportIs value (contents_of table.now).rules (length (contents_of table.now).rules) marking.old statement support → Applied value (program (contents_of table.now)) marking.old marking.new result (Standing value (contents_of table.now).rules marking.old statement support → StatementPassed value (contents_of table.now).rules marking.old statement) }
 {
     match support {
-        Support::Unsupported => force(marking, statement, false),
-        Support::OneRule(rule) => match marking.mark(statement) {
-            Mark::In => explain(table, marking, statement, rule),
-            Mark::Open => Ok(()),
-            Mark::Out => Ok(()),
-        },
+        Support::Unsupported => {
+            let out = Literal {
+                statement,
+                present: false,
+            };
+            force(marking, out)
+        }
+        Support::OneRule(rule) => {
+            if marking.mark(statement) == Mark::In {
+                explain(table, marking, statement, rule)
+            } else {
+                Ok(())
+            }
+        }
         Support::ManyRules => Ok(()),
     }
 }
@@ -42,7 +49,7 @@ pub(crate) fn apply_statements(
     marking: &mut Marking,
     supports: &Supports,
 ) -> Result<(), Clash>
-    ensures { (value : Values) → Counted value (contents_of table.now).rules (length (contents_of table.now).rules) (marks_of marking.old) supports.now.by → Applied value (program (contents_of table.now)) (marks_of marking.old) (marks_of marking.new) result (StatementsPassed value (contents_of table.now).rules (marks_of marking.old) supports.now.by) }
+    ensures { (value : Values) → Counted value (contents_of table.now).rules (length (contents_of table.now).rules) marking.old supports.now.by → Applied value (program (contents_of table.now)) marking.old marking.new result (StatementsPassed value (contents_of table.now).rules marking.old supports.now.by) }
 {
     for statement in 0..marking.statements() {
         apply_statement(table, marking, supports.of(statement), statement)?;

@@ -1,10 +1,9 @@
-ghost use Rattle.std.specs.Prelude.{◌≡◌, ℕ, List, replicate, slice_set};
+ghost use Rattle.std.specs.Prelude.{◌≡◌, ℕ, List, length, replicate, slice_set};
 ghost use Rattle.drawing.specs.Supports.{added, supported_by, with_rule};
 ghost use Rattle.drawing.specs.declared.supports.Support.TheVariants.{Unsupported};
 ghost use Rattle.table.specs.Tables.{contents_of};
 ghost use Rattle.table.specs.View.{Covers};
 
-use super::tables::Supports;
 use table::table::{Run, Table};
 
 // The rules with a statement in the head that are not refuted: none, one, by its number, or several.
@@ -34,22 +33,11 @@ impl Support {
     }
 }
 
-fn support_at(by: &[Support], place: usize) -> Support
-    ensures { result ≡ supported_by by.now place }
-{
-    if place < by.len() {
-        by[place]
-    } else {
-        Support::Unsupported
-    }
-}
-
-fn add_rule(by: &mut [Support], place: usize, rule: usize)
-    ensures { by.new ≡ slice_set by.old place (with_rule (supported_by by.old place) rule) }
-{
-    if place < by.len() {
-        by[place] = by[place].with(rule);
-    }
+// The support of each statement, within the format's limit of 128 statements.
+#[derive(Drop)]
+pub(crate) struct Supports {
+    by: [Support; 128],
+    ghost long: { length by ≡ 128 },
 }
 
 impl Supports {
@@ -65,7 +53,21 @@ impl Supports {
     pub(crate) fn of(&self, statement: u16) -> Support
         ensures { result ≡ supported_by self.now.by statement }
     {
-        support_at(&self.by, statement as usize)
+        self.by
+            .get(statement as usize)
+            .copied()
+            .unwrap_or(Support::Unsupported)
+    }
+
+    // Adds a rule to the support of a statement. By the place, and not by `get_mut`: of a slice that was lent so, the kit
+    // says nothing once the loan is over.
+    fn add_rule(&mut self, statement: u16, rule: usize)
+        ensures { self.new.by ≡ slice_set self.old.by statement (with_rule (supported_by self.old.by statement) rule) }
+    {
+        let place = statement as usize;
+        if place < self.by.len() {
+            self.by[place] = self.by[place].with(rule);
+        }
     }
 
     // Adds a rule to the support of the statements of its head.
@@ -73,7 +75,7 @@ impl Supports {
         ensures { (qs : List ℕ) → Covers (contents_of table.now).literals qs head → self.new.by ≡ added self.old.by qs rule }
     {
         for k in (head.first..head.end).rev() {
-            add_rule(&mut self.by, table.literal(k) as usize, rule);
+            self.add_rule(table.literal(k), rule);
         }
     }
 }

@@ -1,48 +1,43 @@
 ghost use Rattle.drawing.specs.Applying.{Applied};
 ghost use Rattle.drawing.specs.Drawings.{Settles, SettlesAnswers};
-ghost use Rattle.marking.specs.Marks.{marks_of};
+ghost use Rattle.judging.specs.Rulebooks.{program_of};
 ghost use Rattle.semantics.specs.Markings.{Settled};
-ghost use Rattle.std.specs.Prelude.{◌≡◌, Decides};
-ghost use Rattle.table.specs.Contents.{program};
-ghost use Rattle.table.specs.Tables.{contents_of};
+ghost use Rattle.std.specs.Prelude.{◌≡◌, ◌↔◌, IsTrue};
 
 use super::forcing::Clash;
 use super::rules::apply_rules;
 use super::statements::apply_statements;
-use super::tables::Supports;
+use super::supports::Supports;
 use family::Family;
+use judging::Rulebook;
 use marking::Marking;
-use table::table::Table;
 
 // Applies the steps once over all rules and all statements. Its time is linear in the size of the table: each rule is
 // judged once, and explains at most the statements of its head.
-fn sweep<F: Family>(table: &Table, family: &F, marking: &mut Marking) -> Result<(), Clash>
-    ensures { Applied (F.value family.now) (program (contents_of table.now)) (marks_of marking.old) (marks_of marking.new) result (Settled (F.value family.now) (contents_of table.now).rules (marks_of marking.old)) }
+fn sweep<F: Family>(book: &Rulebook<F>, marking: &mut Marking) -> Result<(), Clash>
+    ensures { Applied (F.value book.now.family.now) (program_of book.now) marking.old marking.new result (Settled (F.value book.now.family.now) (program_of book.now).rules marking.old) }
 {
     let mut supports = Supports::none();
-    apply_rules(table, family, marking, &mut supports)?;
-    apply_statements(table, marking, &supports)
+    apply_rules(book, marking, &mut supports)?;
+    apply_statements(book.table, marking, &supports)
 }
 
-// Whether as many statements are open as before.
+// Whether as many statements are open as before. Stays a function of its own: the proof of `settle` is written out, so an
+// edit of its own lines breaks that first, and not a fact about the code.
 fn is_unchanged(before: u16, after: u16) -> bool
-    ensures { Decides result (after ≡ before) }
+    ensures { IsTrue result ↔ (after ≡ before) }
 {
     after == before
 }
 
 // Sweeps until no step has an open statement to mark, or there is a clash.
-pub(crate) fn settle<F: Family>(
-    table: &Table,
-    family: &F,
-    marking: &mut Marking,
-) -> Result<(), Clash>
-    ensures drawn { Settles (F.value family.now) (program (contents_of table.now)) (marks_of marking.old) (marks_of marking.new) result }
-    ensures answers { SettlesAnswers (F.value family.now) (program (contents_of table.now)) (marks_of marking.old) (marks_of marking.new) result }
+pub(crate) fn settle<F: Family>(book: &Rulebook<F>, marking: &mut Marking) -> Result<(), Clash>
+    ensures drawn { Settles (F.value book.now.family.now) (program_of book.now) marking.old marking.new result }
+    ensures answers { SettlesAnswers (F.value book.now.family.now) (program_of book.now) marking.old marking.new result }
 {
     loop {
         let open = marking.open_count();
-        sweep(table, family, marking)?;
+        sweep(book, marking)?;
         if is_unchanged(open, marking.open_count()) {
             return Ok(());
         }

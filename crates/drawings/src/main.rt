@@ -7,7 +7,7 @@ use family::Family;
 use house::House;
 use marking::Marking;
 use semantics::{Finding, Mark};
-use std::alloc::{AllocError, Global};
+use std::alloc::Global;
 use std::str::from_utf8;
 use table::table::Table;
 
@@ -21,28 +21,12 @@ struct Case {
     bytes: Vec<u8>,
 }
 
-fn digit(letter: u8) -> u8 {
-    match letter {
-        b'0'..=b'9' => letter - b'0',
-        b'a'..=b'f' => letter - b'a' + 10,
-        _ => 0,
-    }
-}
-
-fn push_hex(bytes: &mut Vec<u8>, hex: &[u8]) -> Result<(), AllocError> {
-    for pair in hex.chunks_exact(2) {
-        bytes.push(digit(pair[0]) << 4 | digit(pair[1]))?;
-    }
-    Ok(())
-}
-
+// Adds the bytes of a word. This stays beside its like in `refusals`: a crate of both would be longer than these lines.
 fn push_bytes(bytes: &mut Vec<u8>, word: &str) -> anyhow::Result<()> {
-    let (hex, times) = match word.split_once('*') {
-        Some((hex, times)) => (hex, times.parse::<u16>()?),
-        None => (word, 1),
-    };
-    for _ in 0..times {
-        push_hex(bytes, hex.as_bytes())?;
+    let (digits, times) = word.split_once('*').unwrap_or((word, "1"));
+    let part = hex::decode(*bytes.allocator(), digits)?;
+    for _ in 0..times.parse::<u16>()? {
+        bytes.extend_from_slice(&part)?;
     }
     Ok(())
 }
@@ -68,21 +52,13 @@ impl Case {
     }
 }
 
-fn mark_word(mark: Mark) -> &'static str {
-    match mark {
-        Mark::In => "in",
-        Mark::Out => "out",
-        Mark::Open => "open",
-    }
-}
-
 // The names of the statements with this mark, each after a blank.
 fn names(heap: Global, table: &Table, marking: &Marking, mark: Mark) -> anyhow::Result<String> {
     let mut names = String::new(heap);
     for statement in 0..marking.statements() {
         if marking.mark(statement) == mark {
-            names.push(' ')?;
-            names.push_str(from_utf8(table.name(statement))?)?;
+            let name = from_utf8(table.name(statement))?;
+            write!(names, " {name}")?;
         }
     }
     Ok(names)
@@ -99,8 +75,7 @@ fn marking_text(heap: Global, table: &Table, marking: &Marking) -> anyhow::Resul
         if !text.is_empty() {
             text.push_str(", ")?;
         }
-        text.push_str(mark_word(mark))?;
-        text.push_str(names.as_str())?;
+        write!(text, "{mark}{names}")?;
     }
     if text.is_empty() {
         text.push_str("nothing to mark")?;

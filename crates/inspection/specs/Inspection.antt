@@ -3,7 +3,6 @@ use Rattle.std.specs.Prelude.{◌≡◌, ℕ, Bool, true, false, List, [], ◌�
 use Rattle.drawing.specs.Drawings.{Draws}
 use Rattle.format.specs.Check.{accepted}
 use Rattle.kinds.specs.Lacking.{lacking}
-use Rattle.marking.specs.Marks.{marks_of}
 use Rattle.marking.specs.declared.marking.Marking.{Marking}
 use Rattle.notation.specs.Marks.{marks_text}
 use Rattle.notation.specs.Shown.{fault_text, shown}
@@ -13,7 +12,7 @@ use Rattle.table.specs.Contents.{contents, program}
 
 -- what is known of each statement, or that there is a clash
 abbrev pub drawing_text : List (List ℕ) → Option Marking → List ℕ
-drawing_text names (Some m) = marks_text names (marks_of m)
+drawing_text names (Some m) = marks_text names m
 drawing_text names None = codes "clash\n"
 
 -- the first kind that is lacking, or the drawing from no findings

@@ -3,7 +3,7 @@
 mod theorems;
 
 ghost use Rattle.inspection.specs.Inspection.{ForcedText, Inspected, drawing_text};
-ghost use Rattle.std.specs.Prelude.{◌≡◌, IfOk, codes};
+ghost use Rattle.std.specs.Prelude.{◌≡◌, IfOk, string_bytes};
 ghost use Rattle.table.specs.Tables.{contents_of};
 
 use drawing::draw;
@@ -14,31 +14,19 @@ use notation::{fault_text, marks_text, shown};
 use std::alloc::{AllocError, Global};
 use table::table::Table;
 
-fn clash_text(heap: Global) -> Result<Vec<u8>, AllocError>
-    ensures { IfOk result (λ v. v.items ≡ codes "clash\n") }
-{
-    let mut out = Vec::new(heap);
-    out.extend_from_slice(b"clash\n")?;
-    Ok(out)
-}
-
 // What was drawn, one statement a line, or that there is a clash.
-fn drawing_text(
-    heap: Global,
-    table: &Table,
-    drawing: Option<Marking>,
-) -> Result<Vec<u8>, AllocError>
-    ensures { IfOk result (λ v. v.items ≡ drawing_text (contents_of table.now).names drawing) }
+fn drawing_text(heap: Global, table: &Table, drawing: Option<Marking>) -> Result<String, AllocError>
+    ensures { IfOk result (λ s. string_bytes s ≡ drawing_text (contents_of table.now).names drawing) }
 {
     match drawing {
         Some(marking) => marks_text(heap, table, &marking),
-        None => clash_text(heap),
+        None => String::from_str(heap, "clash\n"),
     }
 }
 
 // What the rules force by themselves under the house family: the drawing from no findings, or which kind is lacking.
-fn forced_text(heap: Global, table: &Table) -> Result<Vec<u8>, AllocError>
-    ensures { IfOk result (λ v. ForcedText table.now.bytes.now v.items) }
+fn forced_text(heap: Global, table: &Table) -> Result<String, AllocError>
+    ensures { IfOk result (λ s. ForcedText table.now.bytes.now (string_bytes s)) }
 {
     match check_kinds(table, &House) {
         Ok(()) => drawing_text(heap, table, draw(table, &House, &[])),
@@ -47,14 +35,14 @@ fn forced_text(heap: Global, table: &Table) -> Result<Vec<u8>, AllocError>
 }
 
 // The bytes of a table as people read them, and after its rules what they force by themselves.
-pub fn inspected(heap: Global, bytes: &[u8]) -> Result<Vec<u8>, AllocError>
-    ensures { IfOk result (λ v. Inspected bytes.now v.items) }
+pub fn inspected(heap: Global, bytes: &[u8]) -> Result<String, AllocError>
+    ensures { IfOk result (λ s. Inspected bytes.now (string_bytes s)) }
 {
     let mut out = shown(heap, bytes)?;
     let table = Table::open(bytes);
     if table.is_opened() {
         let forced = forced_text(heap, &table)?;
-        out.extend_from_slice(forced.as_slice())?;
+        out.push_str(forced.as_str())?;
     }
     Ok(out)
 }

@@ -21,14 +21,15 @@ weights_few m [] = omega arith
 weights_few m (a ∷ ms) =
     omega (arith, one_place (at m a.statement) a.weight (sure_weights m ms) (open_weights m ms), weights_few m ms)
 
--- what holds of the bags with the weight of a member more, in the place that its mark gives it, holds of the bags of the
--- members from it on
-pub with_member : (P : List ℤ → List ℤ → Type 0) (m : List Mark) (all : List Member) (end k : ℕ) → 1 ≤ k → k ≤ end → end ≤ length all → (a : Member) → a ≡ get_or all (k - 1) no_member → (v : Mark) → v ≡ at m a.statement → P (if_in v a.weight (sure_weights m (tail all end k))) (if_open v a.weight (open_weights m (tail all end k))) → P (sure_weights m (tail all end (k - 1))) (open_weights m (tail all end (k - 1)))
-with_member P m all end k p l i a here v e h =
-    let next : tail all end (k - 1) ≡ a ∷ tail all end k = tail_more all end k no_member p l i ∙ ap (λ b. b ∷ tail all end k) (sym here) in
-    rw (next, sym e) h
-
 -- there is room for one more of at most 128
-pub room_left : (m : List Mark) (all : List Member) (first end k statements : ℕ) (a : Member) → first < k → k ≤ end → end ≤ length all → end - first ≤ 128 → MemberLimits statements a → Takes (sure_weights m (tail all end k)) (open_weights m (tail all end k)) a.weight
+room_left : (m : List Mark) (all : List Member) (first end k statements : ℕ) (a : Member) → first < k → k ≤ end → end ≤ length all → end - first ≤ 128 → MemberLimits statements a → Takes (sure_weights m (tail all end k)) (open_weights m (tail all end k)) a.weight
 room_left m all first end k statements a f l i few h =
     record { room = omega (arith, weights_few m (tail all end k), length_tail all end k l i); small = (h.low, h.high) }
+
+-- the member before place k, whose mark is v: what a tally holds of the bags of those from k on, it goes on to hold once
+-- the weight is in the place that the mark gives it
+module _ (m : List Mark) (all : List Member) (first end k statements : ℕ) (f : first < k) (l : k ≤ end) (i : end ≤ length all) (few : end - first ≤ 128) where
+  pub one_more_filled : (Before After : List ℤ → List ℤ → Type 0) (a : Member) (v : Mark) → a ≡ get_or all (k - 1) no_member → MemberLimits statements a → v ≡ at m a.statement → ((s o : List ℤ) → Before s o → Takes s o a.weight → After (if_in v a.weight s) (if_open v a.weight o)) → Before (sure_weights m (tail all end k)) (open_weights m (tail all end k)) → After (sure_weights m (tail all end (k - 1))) (open_weights m (tail all end (k - 1)))
+  one_more_filled Before After a v here limits e step h =
+      let next : tail all end (k - 1) ≡ a ∷ tail all end k = tail_more all end k no_member (omega arith) l i ∙ ap (λ b. b ∷ tail all end k) (sym here) in
+      rw (next, sym e) (step _ _ h (room_left m all first end k statements a f l i few limits))

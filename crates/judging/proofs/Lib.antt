@@ -1,3 +1,4 @@
+pub mod Runs
 pub mod Filling
 pub mod Bags
 pub mod Verdicts

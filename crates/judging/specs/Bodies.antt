@@ -1,5 +1,6 @@
 -- What a marking says of the body of a rule.
 use Rattle.std.specs.Prelude.{ℕ, Bool, true, false, List, ◌++◌, ◌≢◌}
+use Rattle.family.specs.Readings.{Judges}
 use Rattle.family.specs.declared.reading.Verdict.{Verdict}
 use Rattle.family.specs.declared.reading.Verdict.TheVariants.{Certain as Sure, Impossible as Never, Neither as Unknown}
 use Rattle.judging.specs.Literals.{IsOpen, as_literals}
@@ -24,6 +25,14 @@ AllCertain value m gs = (g : Aggregate) → Among g gs → Certain value m g
 
 abbrev pub SomeImpossible : Values → List Mark → List Aggregate → Type 0
 SomeImpossible value m gs = (g : Aggregate) × Among g gs × Impossible value m g
+
+-- the verdict on an aggregate
+abbrev pub AggregateIs : Values → List Mark → Aggregate → Verdict → Type 0
+AggregateIs value m g v = Judges v (Certain value m g) (Impossible value m g)
+
+-- the verdict on several: that all are certain, or that one is impossible
+abbrev pub AggregatesAre : Values → List Mark → List Aggregate → Verdict → Type 0
+AggregatesAre value m gs v = Judges v (AllCertain value m gs) (SomeImpossible value m gs)
 
 pub record BodyNeither (value : Values) (m : List Mark) (r : Rule) : Type 0 where
   pub standing : Refuted value m r → ⊥

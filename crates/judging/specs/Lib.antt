@@ -1,3 +1,4 @@
 pub mod Weights
 pub mod Literals
 pub mod Bodies
+pub mod Rulebooks

@@ -3,7 +3,8 @@
 mod aggregates;
 mod bodies;
 mod literals;
+mod rulebook;
 
-pub use aggregates::judge_aggregate;
-pub use bodies::{Body, judge_body};
-pub use literals::{Literal, Literals, judge_head};
+pub use bodies::Body;
+pub use literals::{Literal, Literals};
+pub use rulebook::Rulebook;

@@ -1,17 +1,17 @@
-ghost use Rattle.std.specs.Prelude.{◌≡◌, ℕ, false, List, ◌∷◌, ◌++◌, slice_index_or};
+ghost use Rattle.std.specs.Prelude.{◌≡◌, ℕ, List, ◌∷◌, ◌++◌};
 ghost use Rattle.judging.specs.Literals.{LiteralsAre, as_literals};
 ghost use Rattle.judging.specs.declared.literals.Literal.{Literal};
-ghost use Rattle.marking.specs.Marks.{marks_of};
 ghost use Rattle.semantics.specs.Markings.{at};
 ghost use Rattle.semantics.specs.declared.Mark.{Mark};
 ghost use Rattle.table.specs.Tables.{contents_of};
-ghost use Rattle.table.specs.View.{Covers, no_rule};
+ghost use Rattle.table.specs.View.{Covers};
 
 use marking::Marking;
 use semantics::Mark;
 use table::table::{Run, Table};
 
-// A statement that should be in, or out.
+// A statement that should be in, or out. It has the fields of a finding, but a finding says what the movement is like, and
+// a literal what a rule asks for: the two stay apart.
 #[derive(Clone, Copy, PartialEq, Eq, Debug)]
 pub struct Literal {
     pub statement: u16,
@@ -36,7 +36,7 @@ impl Literals {
         match self {
             Literals::Met => Literals::OneOpen(literal),
             Literals::OneOpen(other) => {
-                if other.statement == literal.statement && other.present == literal.present {
+                if other == literal {
                     self
                 } else {
                     Literals::SeveralOpen
@@ -51,22 +51,12 @@ impl Literals {
     fn and(self, literal: Literal, mark: Mark) -> Literals
         ensures { (m : List Mark) (ls : List Literal) → mark ≡ at m literal.statement → LiteralsAre m ls self → LiteralsAre m (literal ∷ ls) result }
     {
-        match mark {
-            Mark::Open => self.and_open(literal),
-            Mark::In => {
-                if literal.present {
-                    self
-                } else {
-                    Literals::Against
-                }
-            }
-            Mark::Out => {
-                if literal.present {
-                    Literals::Against
-                } else {
-                    self
-                }
-            }
+        if mark == Mark::Open {
+            self.and_open(literal)
+        } else if mark == Mark::from(literal.present) {
+            self
+        } else {
+            Literals::Against
         }
     }
 }
@@ -79,7 +69,7 @@ pub(crate) fn judge_literals(
     present: bool,
     before: Literals,
 ) -> Literals
-    ensures { (qs : List ℕ) (ls : List Literal) → Covers (contents_of table.now).literals qs run → LiteralsAre (marks_of marking.now) ls before → LiteralsAre (marks_of marking.now) (as_literals present qs ++ ls) result }
+    ensures { (qs : List ℕ) (ls : List Literal) → Covers (contents_of table.now).literals qs run → LiteralsAre marking.now ls before → LiteralsAre marking.now (as_literals present qs ++ ls) result }
 {
     let mut all = before;
     for k in (run.first..run.end).rev() {
@@ -87,11 +77,4 @@ pub(crate) fn judge_literals(
         all = all.and(Literal { statement, present }, marking.mark(statement));
     }
     all
-}
-
-// What a marking says of the head of rule i, that its statements be out.
-pub fn judge_head(table: &Table, marking: &Marking, i: usize) -> Literals
-    ensures { LiteralsAre (marks_of marking.now) (as_literals false (slice_index_or (contents_of table.now).rules i no_rule).head) result }
-{
-    judge_literals(table, marking, table.rule(i).head, false, Literals::Met)
 }

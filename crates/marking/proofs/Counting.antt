@@ -1,25 +1,28 @@
 -- The number of open statements: counted from the last on, and never more under more marks.
-use Rattle.std.proofs.Common.{◌≡◌, ℕ, zero, suc, ◌+◌, ◌-◌, ◌≤◌, Bool, true, false, List, [], ◌∷◌, length, drop, refl, ap, ◌∙◌, arith}
+use Rattle.std.proofs.Common.{◌≡◌, zero, suc, ◌+◌, ◌≤◌, Bool, true, false, List, [], ◌∷◌, cond, count_by, length, refl, zero-add, ap, ◌∙◌, arith}
 use Rattle.marking.specs.Marks.{how_open, open_in}
-use Rattle.semantics.specs.Markings.{Below, at, marked}
+use Rattle.semantics.specs.Markings.{Below, marked}
 use Rattle.semantics.specs.declared.Mark.{Mark}
 use Rattle.semantics.specs.declared.Mark.TheVariants.{Open, In, Out}
-use Rattle.std.proofs.lemmas.List.{drop_more}
+use Rattle.std.proofs.lemmas.List.Recursion.{is_count_by}
+
+abbrev pub is_open : Mark → Bool
+is_open Open = true
+is_open In = false
+is_open Out = false
+
+pub how_open_counts : (m : List Mark) → how_open m ≡ count_by is_open m
+how_open_counts = is_count_by how_open is_open refl one_more
+  where
+    one_more : (v : Mark) (m : List Mark) → how_open (v ∷ m) ≡ cond (is_open v) (1 + how_open m) (how_open m)
+    one_more Open m = refl
+    one_more In m = zero-add (how_open m)
+    one_more Out m = zero-add (how_open m)
 
 one_at_most : (v : Mark) → open_in v ≤ 1
 one_at_most Open = omega arith
 one_at_most In = omega arith
 one_at_most Out = omega arith
-
--- one statement more, the one before place k
-pub counted_next : (m : List Mark) (k count more : ℕ) → 1 ≤ k → k ≤ length m → count ≡ how_open (drop k m) → more ≡ open_in (at m (k - 1)) → count + more ≡ how_open (drop (k - 1) m)
-counted_next m k count more p l e f =
-    let i : k - 1 + 1 ≡ k = omega arith in
-    let next : drop (k - 1) m ≡ at m (k - 1) ∷ drop k m = drop_more m (k - 1) Open (omega arith) ∙ ap (λ j. at m (k - 1) ∷ drop j m) i in
-    rw next (omega (arith, e, f))
-
-pub counted_within : (m : List Mark) (k count more : ℕ) → 1 ≤ k → count + k ≤ length m → more ≡ open_in (at m (k - 1)) → count + more + (k - 1) ≤ length m
-counted_within m k count more p l f = omega (arith, f, one_at_most (at m (k - 1)))
 
 -- under more marks
 fewer_one : (v w : Mark) → ((x : Bool) → v ≡ marked x → w ≡ marked x) → open_in w ≤ open_in v

@@ -1,11 +1,7 @@
 -- The marks of a marking, one a statement.
-use Rattle.std.specs.Prelude.{ℕ, ◌+◌, List, [], ◌∷◌, take}
-use Rattle.marking.specs.declared.marking.Marking.{Marking}
+use Rattle.std.specs.Prelude.{ℕ, ◌+◌, List, [], ◌∷◌}
 use Rattle.semantics.specs.declared.Mark.{Mark}
 use Rattle.semantics.specs.declared.Mark.TheVariants.{Open, In, Out}
-
-abbrev pub marks_of : Marking → List Mark
-marks_of m = take m.statements m.marks
 
 -- how many statements are open
 abbrev pub open_in : Mark → ℕ

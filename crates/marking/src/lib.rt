@@ -1,8 +1,5 @@
 #![tactic(auto)]
 
 mod marking;
-mod marks;
-mod size;
 
 pub use marking::Marking;
-pub use marks::mark_of;

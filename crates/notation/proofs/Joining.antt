@@ -1,11 +1,13 @@
 -- Pieces of text in a row.
-use Rattle.std.proofs.Common.{◌≡◌, ℕ, zero, suc, ◌+◌, ◌-◌, ◌<◌, ◌≤◌, leb, List, [], ◌∷◌, ◌++◌, map, sym, refl, ap, ◌∙◌, append_assoc, append-nil, arith}
-use Rattle.notation.specs.Pieces.{between, none, places}
+use Rattle.std.proofs.Common.{◌≡◌, ℕ, suc, ◌+◌, ◌-◌, ◌<◌, ◌≤◌, List, [], ◌∷◌, ◌++◌, map, Ok, Some, Option, sym, refl, ap, ◌∙◌, append_assoc, append-nil, arith}
+use Rattle.notation.proofs.Written.{then_shown, then_text}
+use Rattle.notation.specs.Pieces.{between}
 use Rattle.notation.specs.Text.{joined, sign_text}
 use Rattle.std.proofs.lemmas.List.FromFn.{map-range_with_len_more}
-use Rattle.std.proofs.lemmas.Bool.{lt-leb}
+use Rattle.std.proofs.Output.{has_written_of_eq}
+use Rattle.std.specs.Fmt.{DisplaysOnOk, HasWritten, WritesOnOk}
 use Rattle.std.specs.List.{range_with_len}
-use Rattle.table.specs.declared.table.Run.{Run}
+use Rattle.std.specs.declared.fmt.Formatter.{Formatter}
 
 -- two rows, one after the other
 joined_rows : (sign : List ℕ) (xs ys : List (List ℕ)) → joined sign (xs ++ ys) ≡ joined sign xs ++ (between sign xs ys ++ joined sign ys)
@@ -29,18 +31,18 @@ module _ (sign : List ℕ) (piece : ℕ → List ℕ) (from : ℕ) where
       let z : k - from ≡ 0 = omega arith in
       row_more k h ∙ ap (λ m. row k ++ (between sign (map piece (range_with_len from m)) (piece k ∷ []) ++ piece k)) z
 
-  pub row_goes_on : (k : ℕ) → from < k → row (k + 1) ≡ row k ++ (sign ++ piece k)
+  pub row_goes_on : (k : ℕ) → from < k → row (k + 1) ≡ (row k ++ sign) ++ piece k
   row_goes_on k h =
       let n : k - from ≡ suc (k - from - 1) = omega arith in
-      row_more k (omega arith) ∙ ap (λ m. row k ++ (between sign (map piece (range_with_len from m)) (piece k ∷ []) ++ piece k)) n
+      row_more k (omega arith) ∙ ap (λ m. row k ++ (between sign (map piece (range_with_len from m)) (piece k ∷ []) ++ piece k)) n ∙ sym (append_assoc (row k) sign (piece k))
 
--- whether a run has a place
-none_counting : (a n : ℕ) → none (range_with_len a n) ≡ leb n 0
-none_counting a zero = refl
-none_counting a (suc n) = sym (lt-leb (suc n) 0 (omega arith))
+-- the next piece is written: the first one alone, and each other one after the sign
+module _ {W : Type 0} (took : W → List ℕ → W → Type 0) (sign : List ℕ) (piece : ℕ → List ℕ) (from k : ℕ) {f g g' h : Formatter W} {o : Option (List ℕ)} (shows : o ≡ Some (piece k)) where
+  pub first_written : from ≤ k → k ≤ from → HasWritten took f (row sign piece from k) g → g' ≡ g → DisplaysOnOk took g' (Ok (tt {0})) o h → HasWritten took f (row sign piece from (k + 1)) h
+  first_written l m so_far e last = has_written_of_eq took f _ _ h (sym (row_begins sign piece from k l m)) (then_shown shows e so_far last)
 
-pub none_places : (r : Run) → leb r.end r.first ≡ none (places r)
-none_places r = rw (none_counting r.first (r.end - r.first)) (grind arith)
+  pub next_written : from < k → {m : Formatter W} → HasWritten took f (row sign piece from k) g → WritesOnOk took g (Ok (tt {0})) sign m → g' ≡ m → DisplaysOnOk took g' (Ok (tt {0})) o h → HasWritten took f (row sign piece from (k + 1)) h
+  next_written l so_far parted e last = has_written_of_eq took f _ _ h (sym (row_goes_on sign piece from k l)) (then_shown shows e (then_text refl so_far parted) last)
 
 -- a sign asks only whether there is something, and a map does not change that
 pub sign_mapped : {X Y : Type 0} (f : ℕ → X) (g h : ℕ → Y) (xs ys zs : List ℕ) → sign_text xs (ys ++ zs) ≡ sign_text (map f xs) (map g ys ++ map h zs)

@@ -1,4 +1,5 @@
-pub mod Adding
+pub mod Names
+pub mod Written
 pub mod Joining
 pub mod Placed
 pub mod Reports

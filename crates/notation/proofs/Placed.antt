@@ -1,14 +1,14 @@
 -- The pieces at the places of a run are the texts of what the run shows.
-use Rattle.std.proofs.Common.{◌≡◌, ℕ, zero, suc, ◌+◌, ◌-◌, ◌<◌, ◌≤◌, List, [], ◌∷◌, ◌++◌, map, length, get_or, ℤ, codes, sym, refl, ap, ◌∙◌, append_assoc, arith}
+use Rattle.std.proofs.Common.{◌≡◌, ℕ, zero, suc, ◌+◌, ◌-◌, ◌<◌, ◌≤◌, List, ◌∷◌, ◌++◌, map, length, get_or, ℤ, codes, sym, refl, ap, ◌∙◌, append_assoc, arith}
 use Rattle.notation.proofs.Joining.{sign_mapped, two_rows}
 use Rattle.notation.specs.Pieces.{aggregate_piece, between, body_run, head_pieces, literal_piece, member_piece, places, premise_pieces}
-use Rattle.notation.specs.Text.{aggregate_text, joined, kind_text, member_text, name_text, not_text, premises, relation_text, rule_text, sign_text}
+use Rattle.notation.specs.Text.{aggregate_text, joined, kind_text, member_text, name_text, not_text, premises, rule_text, sign_text}
 use Rattle.std.proofs.lemmas.List.{drop_more}
 use Rattle.std.proofs.lemmas.Bool.{cond_above, cond_below}
 use Rattle.std.specs.List.{range_with_len}
 use Rattle.std.specs.Fmt.{signed_decimal}
 use Rattle.semantics.specs.Programs.{Aggregate, Rule}
-use Rattle.semantics.specs.declared.Member.{Member}
+use Rattle.semantics.specs.Words.{relation_text}
 use Rattle.table.specs.Contents.{Contents, slice}
 use Rattle.table.specs.View.{Covers, ShowsAggregate, ShowsRule, no_aggregate, no_member}
 use Rattle.table.specs.declared.table.AggregateView.{AggregateView}
@@ -28,15 +28,8 @@ texts_at {all} {xs} {r} f p d v at =
     mapped_part f p d all r.first (r.end - r.first) (omega (arith, v.forward, v.inside)) (λ k l m. at k l (omega (arith, v.forward)))
     ∙ sym (ap (map f) v.part)
 
--- The pieces that a rule has: a negated statement, a member of a set, an aggregate.
-pub negated_piece : (c : Contents) (m k q : ℕ) (name : List ℕ) → m ≤ k → q ≡ get_or c.literals k 0 → name ≡ get_or c.names q [] → codes "not " ++ name ≡ literal_piece c m k
-negated_piece c m k q name h e n = cond_above k m _ _ _ h (ap (λ t. codes "not " ++ t) (n ∙ ap (λ p. get_or c.names p []) e))
-
-pub member_shown : (c : Contents) (m : Member) (k : ℕ) (name : List ℕ) (weight : ℤ) → m ≡ get_or c.members k no_member → name ≡ get_or c.names m.statement [] → weight ≡ m.weight → name ++ (codes ":" ++ signed_decimal weight) ≡ member_piece c k
-member_shown c m k name weight e n w = cc
-
-pub aggregate_shown : (c : Contents) (g : Aggregate) (v : AggregateView) (sign : List ℕ) (bound : ℤ) → ShowsAggregate c g v → sign ≡ relation_text v.relation → bound ≡ v.bound → kind_text v.kind ++ (codes "{" ++ (joined (codes ", ") (map (member_piece c) (places v.members)) ++ (codes "} " ++ (sign ++ (codes " " ++ signed_decimal bound))))) ≡ aggregate_text c.names g
-aggregate_shown c g v sign bound shows s b =
+pub aggregate_shown : (c : Contents) (g : Aggregate) (v : AggregateView) (bound : ℤ) → ShowsAggregate c g v → bound ≡ v.bound → kind_text v.kind ++ (codes "{" ++ (joined (codes ", ") (map (member_piece c) (places v.members)) ++ (codes "} " ++ (relation_text v.relation ++ (codes " " ++ signed_decimal bound))))) ≡ aggregate_text c.names g
+aggregate_shown c g v bound shows e =
     let members = texts_at (member_text c.names) (member_piece c) no_member shows.members (λ k l m. refl) in
     cc
 

@@ -1,15 +1,14 @@
 -- The text of a whole table.
-use Rattle.std.proofs.Common.{◌≡◌, ℕ, ◌+◌, ◌<◌, ◌≤◌, List, [], ◌∷◌, ◌++◌, length, get_or, take, IfOk, Ok, Err, vec_items, Result, Vec, sym, refl, ap, ◌∙◌, subst, append_assoc, arith}
+use Rattle.std.proofs.Common.{◌≡◌, ℕ, ◌+◌, ◌<◌, ◌≤◌, List, [], ◌∷◌, ◌++◌, length, get_or, take, Ok, Err, sym, refl, ap, ◌∙◌, append_assoc, arith}
 use Rattle.format.specs.Check.{counts_of, faults}
 use Rattle.format.specs.Faults.{verdict}
 use Rattle.format.specs.declared.check.Counts.{Counts}
+use Rattle.refusal.specs.Refusals.{refused_text}
 use Rattle.refusal.specs.declared.Fault.{Fault}
 use Rattle.notation.specs.Shown.{by_faults, counts_text, fault_text, newline, rules_text, shown}
 use Rattle.notation.specs.Text.{rule_text}
 use Rattle.semantics.specs.Programs.{Rule}
 use Rattle.std.proofs.lemmas.List.{take_all, take_more}
-use Rattle.std.specs.declared.alloc.AllocError.{AllocError}
-use Rattle.std.specs.declared.alloc.Global.{Global}
 use Rattle.table.specs.Contents.{contents}
 use Rattle.table.specs.View.{no_rule}
 
@@ -25,6 +24,10 @@ rules_text_more names rs i l = rw (take_more rs i no_rule l) (sym (rules_text_ne
 pub rules_text_all : (names : List (List ℕ)) (rs : List Rule) (i : ℕ) → length rs ≤ i → rules_text names (take i rs) ≡ rules_text names rs
 rules_text_all names rs i h = ap (rules_text names) (take_all i rs h)
 
+-- A fault, in a line.
+pub fault_line : (f : Fault) → refused_text f ++ newline ≡ fault_text f
+fault_line f = simp append_assoc
+
 -- The check's answer says which of the two texts is shown.
 abbrev table_text : List ℕ → Counts → List ℕ
 table_text b n = counts_text n ++ rules_text (contents b).names (contents b).rules
@@ -37,11 +40,10 @@ by_fault : (fs : List Fault) (b : List ℕ) (f : Fault) → Err f ≡ verdict fs
 by_fault [] b f e = let z : ◌≡◌ {A = ℕ} 0 1 = cc in absurd (omega arith)
 by_fault (x ∷ xs) b f e = let same : f ≡ x = cc in ap fault_text same
 
-module _ (b : List ℕ) (r : Result (Vec ℕ Global) AllocError) where
-  pub shown_accepted : (opened : List ℕ) (n : Counts) → opened ≡ b → Ok n ≡ verdict (faults b) (counts_of b) → IfOk r (λ v. vec_items v ≡ table_text opened n) → IfOk r (λ v. vec_items v ≡ shown b)
-  unfolding shown
-  shown_accepted opened n o e = subst (λ t. IfOk r (λ v. vec_items v ≡ t)) (ap (λ a. table_text a n) o ∙ by_no_fault (faults b) b n e)
+pub table_shown : (b : List ℕ) (n : Counts) → Ok n ≡ verdict (faults b) (counts_of b) → table_text b n ≡ shown b
+unfolding shown
+table_shown b n e = by_no_fault (faults b) b n e
 
-  pub shown_refused : (f : Fault) → Err f ≡ verdict (faults b) (counts_of b) → IfOk r (λ v. vec_items v ≡ fault_text f) → IfOk r (λ v. vec_items v ≡ shown b)
-  unfolding shown
-  shown_refused f e = subst (λ t. IfOk r (λ v. vec_items v ≡ t)) (by_fault (faults b) b f e)
+pub fault_shown : (b : List ℕ) (f : Fault) → Err f ≡ verdict (faults b) (counts_of b) → fault_text f ≡ shown b
+unfolding shown
+fault_shown b f e = by_fault (faults b) b f e

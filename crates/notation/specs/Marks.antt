@@ -3,13 +3,8 @@ use Rattle.std.specs.Prelude.{ℕ, zero, suc, List, [], ◌++◌, length, codes}
 use Rattle.notation.specs.Shown.{newline}
 use Rattle.notation.specs.Text.{name_text}
 use Rattle.semantics.specs.Markings.{at}
+use Rattle.semantics.specs.Words.{mark_text}
 use Rattle.semantics.specs.declared.Mark.{Mark}
-use Rattle.semantics.specs.declared.Mark.TheVariants.{Open, In, Out}
-
-abbrev pub mark_text : Mark → List ℕ
-mark_text Open = codes "open"
-mark_text In = codes "in"
-mark_text Out = codes "out"
 
 module _ (names : List (List ℕ)) (marks : List Mark) where
   abbrev pub mark_line : ℕ → List ℕ

@@ -1,16 +1,9 @@
 -- Rules as people write them: `a | b :- c, not d, sum{e:4, f:-4} >= 8.`
-use Rattle.std.specs.Prelude.{◌≡◌, ℕ, zero, suc, List, [], ◌∷◌, ◌++◌, map, IfOk, vec_items, codes, decimal, Result, Vec, slice_index_or}
+use Rattle.std.specs.Prelude.{ℕ, zero, suc, List, [], ◌∷◌, ◌++◌, map, codes, decimal, slice_index_or}
 use Rattle.semantics.specs.Programs.{Aggregate, Rule}
+use Rattle.semantics.specs.Words.{relation_text}
 use Rattle.semantics.specs.declared.Member.{Member}
-use Rattle.semantics.specs.declared.Relation.{Relation}
-use Rattle.semantics.specs.declared.Relation.TheVariants.{Less, AtMost, Equal, Unequal, AtLeast, More}
 use Rattle.std.specs.Fmt.{signed_decimal}
-use Rattle.std.specs.declared.alloc.AllocError.{AllocError}
-use Rattle.std.specs.declared.alloc.Global.{Global}
-
--- text at the end of what was there before, if the call found memory for it
-pub record Adds (r : Result (Unit {0}) AllocError) (before after : Vec ℕ Global) (text : List ℕ) : Type 0 where
-  pub added : IfOk r (λ _. vec_items after ≡ vec_items before ++ text)
 
 -- the pieces, with the separator between each two
 abbrev pub joined : List ℕ → List (List ℕ) → List ℕ
@@ -25,14 +18,6 @@ kind_text (suc zero) = codes "sum"
 kind_text (suc (suc zero)) = codes "min"
 kind_text (suc (suc (suc zero))) = codes "max"
 kind_text (suc (suc (suc (suc k)))) = codes "kind" ++ decimal (suc (suc (suc (suc k))))
-
-abbrev pub relation_text : Relation → List ℕ
-relation_text Less = codes "<"
-relation_text AtMost = codes "<="
-relation_text Equal = codes "="
-relation_text Unequal = codes "!="
-relation_text AtLeast = codes ">="
-relation_text More = codes ">"
 
 -- the sign stands between a head and premises, before premises alone, and in a rule with nothing; a head alone has none
 abbrev pub sign_text : {X Y : Type 0} → List X → List Y → List ℕ

@@ -1,55 +1,37 @@
-ghost use Rattle.marking.specs.Marks.{marks_of};
-ghost use Rattle.notation.specs.Marks.{mark_line, mark_text, marks_text};
-ghost use Rattle.notation.specs.Text.{Adds};
-ghost use Rattle.std.specs.Prelude.{◌≡◌, IfOk};
+ghost use Rattle.notation.specs.Marks.{marks_text};
+ghost use Rattle.std.specs.Prelude.{◌≡◌, IfOk, Some, string_bytes};
 ghost use Rattle.table.specs.Tables.{contents_of};
 
-use super::words::put;
+use super::words::name;
 use marking::Marking;
-use semantics::Mark;
 use std::alloc::{AllocError, Global};
+use std::fmt;
 use table::table::Table;
 
-fn mark_word(mark: Mark) -> &'static [u8]
-    ensures { result.now ≡ mark_text mark }
-{
-    match mark {
-        Mark::Open => b"open",
-        Mark::In => b"in",
-        Mark::Out => b"out",
-    }
+// A table's statements with what a marking says of them, one a line.
+#[derive(Clone, Copy)]
+struct Marks<'a> {
+    table: Table<'a>,
+    marking: &'a Marking,
 }
 
-// Adds the line of a statement.
-fn put_line(
-    out: &mut Vec<u8>,
-    table: &Table,
-    marking: &Marking,
-    statement: u16,
-) -> Result<(), AllocError>
-    ensures { Adds result out.old out.new (mark_line (contents_of table.now).names (marks_of marking.now) statement) }
-{
-    put(out, mark_word(marking.mark(statement)))?;
-    put(out, b" ")?;
-    put(out, table.name(statement))?;
-    put(out, b"\n")
-}
+impl fmt::Display for Marks<'_> {
+    ghost output = { λ m. Some (marks_text (contents_of m.table).names m.marking.now) };
 
-// Adds the lines of all statements of the table.
-fn put_lines(out: &mut Vec<u8>, table: &Table, marking: &Marking) -> Result<(), AllocError>
-    ensures { Adds result out.old out.new (marks_text (contents_of table.now).names (marks_of marking.now)) }
-{
-    for statement in 0..table.statements() {
-        put_line(out, table, marking, statement)?;
+    fn fmt<W: fmt::Write>(&self, f: &mut fmt::Formatter<W>) -> fmt::Result {
+        for statement in 0..self.table.statements() {
+            let mark = self.marking.mark(statement);
+            let name = name(&self.table, statement);
+            writeln!(f, "{mark} {name}")?;
+        }
+        Ok(())
     }
-    Ok(())
 }
 
 // What is known of each statement of the table, one a line. Those that the marking lacks are open.
-pub fn marks_text(heap: Global, table: &Table, marking: &Marking) -> Result<Vec<u8>, AllocError>
-    ensures { IfOk result (λ v. v.items ≡ marks_text (contents_of table.now).names (marks_of marking.now)) }
+pub fn marks_text(heap: Global, table: &Table, marking: &Marking) -> Result<String, AllocError>
+    ensures { IfOk result (λ s. string_bytes s ≡ marks_text (contents_of table.now).names marking.now) }
 {
-    let mut out = Vec::new(heap);
-    put_lines(&mut out, table, marking)?;
-    Ok(out)
+    let table = *table;
+    Marks { table, marking }.to_string(heap)
 }

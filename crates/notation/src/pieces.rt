@@ -1,36 +1,41 @@
-ghost use Rattle.std.specs.Prelude.{◌≡◌, ℕ, List, map};
 ghost use Rattle.notation.specs.Pieces.{between, none, places};
-ghost use Rattle.notation.specs.Text.{Adds, joined};
+ghost use Rattle.notation.specs.Text.{joined};
+ghost use Rattle.std.specs.Prelude.{◌≡◌, ℕ, List, Some, map};
 
-use super::words::put;
-use std::alloc::{AllocError, Global};
+use std::fmt;
 use table::table::Run;
 
 // Texts that stand in a row, by their places.
 pub(crate) trait Pieces {
-    ghost piece: { Self → ℕ → List ℕ };
+    type Piece: fmt::Display + Drop;
 
-    fn put_piece(&self, out: &mut Vec<u8>, heap: Global, k: usize) -> Result<(), AllocError>
-        ensures { Adds result out.old out.new (piece self.now k) };
+    ghost text: { Self → ℕ → List ℕ };
+
+    fn piece(&self, place: usize) -> Self::Piece
+        ensures { Self.Piece.output result ≡ Some (text self.now place) };
 }
 
-// Adds the pieces at the places of the run, with the separator between each two.
-pub(crate) fn put_joined<P: Pieces>(
-    out: &mut Vec<u8>,
-    heap: Global,
-    separator: &[u8],
-    pieces: &P,
-    run: Run,
-) -> Result<(), AllocError>
-    ensures { Adds result out.old out.new (joined separator.now (map (P.piece pieces.now) (places run))) }
-{
-    for k in run.first..run.end {
-        if k > run.first {
-            put(out, separator)?;
+// The pieces at the places of the run, with the separator between each two.
+#[derive(Clone, Copy)]
+pub(crate) struct Joined<P> {
+    pub separator: &'static str,
+    pub pieces: P,
+    pub run: Run,
+}
+
+impl<P: Pieces> fmt::Display for Joined<P> {
+    ghost output = { λ j. Some (joined j.separator.now (map (P.text j.pieces) (places j.run))) };
+
+    fn fmt<W: fmt::Write>(&self, f: &mut fmt::Formatter<W>) -> fmt::Result {
+        for place in self.run.first..self.run.end {
+            if place > self.run.first {
+                f.write_str(self.separator)?;
+            }
+            let piece = self.pieces.piece(place);
+            write!(f, "{piece}")?;
         }
-        pieces.put_piece(out, heap, k)?;
+        Ok(())
     }
-    Ok(())
 }
 
 pub(crate) fn is_empty(run: Run) -> bool
@@ -40,11 +45,11 @@ pub(crate) fn is_empty(run: Run) -> bool
 }
 
 // The sign where there is something on both sides of it, and else nothing.
-pub(crate) fn sign_between(sign: &'static [u8], before: Run, after: Run) -> &'static [u8]
+pub(crate) fn sign_between(sign: &'static str, before: Run, after: Run) -> &'static str
     ensures { result.now ≡ between sign.now (places before) (places after) }
 {
     if is_empty(before) || is_empty(after) {
-        b""
+        ""
     } else {
         sign
     }

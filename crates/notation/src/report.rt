@@ -1,68 +1,78 @@
 ghost use Rattle.notation.specs.Shown.{counts_text, fault_text, rules_text, shown};
-ghost use Rattle.notation.specs.Text.{Adds};
-ghost use Rattle.std.specs.Prelude.{◌≡◌, ◌++◌, IfOk};
+ghost use Rattle.std.specs.Prelude.{◌≡◌, ◌++◌, IfOk, Some, string_bytes};
 ghost use Rattle.table.specs.Tables.{contents_of};
 
-use super::rules::put_rule;
-use super::words::put;
-use format::check::{Counts, check};
+use super::rules::Rule;
+use format::check::Counts;
 use refusal::Fault;
 use std::alloc::{AllocError, Global};
+use std::fmt;
 use table::table::Table;
 
 // Why a table is refused, in a line.
-pub fn fault_text(heap: Global, fault: Fault) -> Result<Vec<u8>, AllocError>
-    ensures { IfOk result (λ v. v.items ≡ fault_text fault) }
+#[tactic(auto, using(crate::proofs::Reports::fault_line))]
+pub fn fault_text(heap: Global, fault: Fault) -> Result<String, AllocError>
+    ensures { IfOk result (λ s. string_bytes s ≡ fault_text fault) }
 {
-    let number = fault.refusal.number();
-    let place = fault.place;
-    let text = format!(in heap; "refused {number} at {place}\n")?;
-    Ok(text.into_bytes())
+    format!(in heap; "{fault}\n")
 }
 
 // How many records the areas have, in a line.
-fn counts_text(heap: Global, counts: Counts) -> Result<Vec<u8>, AllocError>
-    ensures { IfOk result (λ v. v.items ≡ counts_text counts) }
-{
-    let Counts {
-        statements,
-        rules,
-        literals,
-        aggregates,
-        members,
-        names,
-    } = counts;
-    let text = format!(in heap;
-        "statements {statements}, rules {rules}, literals {literals}, aggregates {aggregates}, members {members}, name bytes {names}\n"
-    )?;
-    Ok(text.into_bytes())
-}
+#[derive(Clone, Copy)]
+struct CountsLine(Counts);
 
-// Adds the rules of the table, one a line.
-fn put_rules(out: &mut Vec<u8>, heap: Global, table: &Table) -> Result<(), AllocError>
-    ensures { Adds result out.old out.new (rules_text (contents_of table.now).names (contents_of table.now).rules) }
-{
-    for i in 0..table.rules() {
-        put_rule(out, heap, table, i)?;
-        put(out, b"\n")?;
+impl fmt::Display for CountsLine {
+    ghost output = { λ c. Some (counts_text c.0) };
+
+    fn fmt<W: fmt::Write>(&self, f: &mut fmt::Formatter<W>) -> fmt::Result {
+        let Counts {
+            statements,
+            rules,
+            literals,
+            aggregates,
+            members,
+            names,
+        } = self.0;
+        writeln!(
+            f,
+            "statements {statements}, rules {rules}, literals {literals}, aggregates {aggregates}, members {members}, name bytes {names}"
+        )
     }
-    Ok(())
 }
 
-fn table_text(heap: Global, table: &Table, counts: Counts) -> Result<Vec<u8>, AllocError>
-    ensures { IfOk result (λ v. v.items ≡ counts_text counts ++ rules_text (contents_of table.now).names (contents_of table.now).rules) }
+// The rules of a table, one a line.
+#[derive(Clone, Copy)]
+struct Rules<'a>(Table<'a>);
+
+impl fmt::Display for Rules<'_> {
+    ghost output = { λ r. Some (rules_text (contents_of r.0).names (contents_of r.0).rules) };
+
+    fn fmt<W: fmt::Write>(&self, f: &mut fmt::Formatter<W>) -> fmt::Result {
+        for i in 0..self.0.rules() {
+            let rule = Rule { table: self.0, i };
+            writeln!(f, "{rule}")?;
+        }
+        Ok(())
+    }
+}
+
+// The counts of a table and its rules.
+fn table_text(heap: Global, table: Table, counts: Counts) -> Result<String, AllocError>
+    ensures { IfOk result (λ s. string_bytes s ≡ counts_text counts ++ rules_text (contents_of table.entry).names (contents_of table.entry).rules) }
 {
-    let mut out = counts_text(heap, counts)?;
-    put_rules(&mut out, heap, table)?;
-    Ok(out)
+    let counts = CountsLine(counts);
+    let rules = Rules(table);
+    format!(in heap; "{counts}{rules}")
 }
 
 // The bytes of a table as people read them: why they are refused, or their counts and rules.
-pub fn shown(heap: Global, bytes: &[u8]) -> Result<Vec<u8>, AllocError>
-    ensures { IfOk result (λ v. v.items ≡ shown bytes.now) }
+#[tactic(auto, using(crate::proofs::Reports::fault_shown))]
+pub fn shown(heap: Global, bytes: &[u8]) -> Result<String, AllocError>
+    ensures { IfOk result (λ s. string_bytes s ≡ shown bytes.now) }
 {
-    match check(bytes) {
-        Ok(counts) => table_text(heap, &Table::open(bytes), counts),
+    let table = Table::open(bytes);
+    match table.counts() {
+        Ok(counts) => table_text(heap, table, counts),
         Err(fault) => fault_text(heap, fault),
     }
 }

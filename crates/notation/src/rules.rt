@@ -1,13 +1,33 @@
 ghost use Rattle.notation.specs.Pieces.{aggregate_piece, body_run, literal_piece, member_piece, places, premise_pieces};
-ghost use Rattle.notation.specs.Text.{Adds, joined, rule_text, sign_text};
-ghost use Rattle.std.specs.Prelude.{◌≡◌, ◌++◌, IfOk, codes, slice_index_or};
+ghost use Rattle.notation.specs.Text.{joined, rule_text, sign_text};
+ghost use Rattle.std.specs.Fmt.{signed_decimal};
+ghost use Rattle.std.specs.Prelude.{◌≡◌, ◌++◌, IfOk, Some, codes, if◌then◌else◌, slice_index_or, string_bytes};
 ghost use Rattle.table.specs.Tables.{contents_of};
 ghost use Rattle.table.specs.View.{no_rule};
 
-use super::pieces::{Pieces, is_empty, put_joined, sign_between};
-use super::words::{put, put_kind, put_number, relation_sign};
+use super::pieces::{Joined, Pieces, is_empty, sign_between};
+use super::words::{Kind, name};
 use std::alloc::{AllocError, Global};
+use std::fmt;
 use table::table::{RuleView, Run, Table};
+
+// A statement of a head or a body.
+#[derive(Clone, Copy)]
+struct Literal<'a> {
+    name: &'a str,
+    negated: bool,
+}
+
+impl fmt::Display for Literal<'_> {
+    ghost output = { λ l. Some (if l.negated then codes "not " ++ l.name.now else l.name.now) };
+
+    fn fmt<W: fmt::Write>(&self, f: &mut fmt::Formatter<W>) -> fmt::Result {
+        if self.negated {
+            f.write_str("not ")?;
+        }
+        f.write_str(self.name)
+    }
+}
 
 // Statements, by the places of the literals; from one place on they are negated.
 #[derive(Clone, Copy)]
@@ -16,48 +36,90 @@ struct Literals<'a> {
     negated: usize,
 }
 
-impl Pieces for Literals<'_> {
-    ghost piece = { λ s. literal_piece (contents_of s.table) s.negated };
+impl<'a> Pieces for Literals<'a> {
+    type Piece = Literal<'a>;
 
-    fn put_piece(&self, out: &mut Vec<u8>, _heap: Global, k: usize) -> Result<(), AllocError> {
-        let name = self.table.name(self.table.literal(k));
-        if k < self.negated {
-            return put(out, name);
+    ghost text = { λ s. literal_piece (contents_of s.table) s.negated };
+
+    fn piece(&self, place: usize) -> Literal<'a> {
+        Literal {
+            name: name(&self.table, self.table.literal(place)),
+            negated: place >= self.negated,
         }
-        put(out, b"not ")?;
-        put(out, name)
     }
 }
 
+// A statement of an aggregate with its weight.
+#[derive(Clone, Copy)]
+struct Weighed<'a> {
+    name: &'a str,
+    weight: i32,
+}
+
+impl fmt::Display for Weighed<'_> {
+    ghost output = { λ m. Some (m.name.now ++ (codes ":" ++ signed_decimal m.weight)) };
+
+    fn fmt<W: fmt::Write>(&self, f: &mut fmt::Formatter<W>) -> fmt::Result {
+        let Weighed { name, weight } = *self;
+        write!(f, "{name}:{weight}")
+    }
+}
+
+// Members of sets, by their places.
 #[derive(Clone, Copy)]
 struct Members<'a>(Table<'a>);
 
-impl Pieces for Members<'_> {
-    ghost piece = { λ s. member_piece (contents_of s.0) };
+impl<'a> Pieces for Members<'a> {
+    type Piece = Weighed<'a>;
 
-    fn put_piece(&self, out: &mut Vec<u8>, heap: Global, k: usize) -> Result<(), AllocError> {
-        let member = self.0.member(k);
-        put(out, self.0.name(member.statement))?;
-        put(out, b":")?;
-        put_number(out, heap, member.weight)
+    ghost text = { λ s. member_piece (contents_of s.0) };
+
+    fn piece(&self, place: usize) -> Weighed<'a> {
+        let member = self.0.member(place);
+        Weighed {
+            name: name(&self.0, member.statement),
+            weight: member.weight,
+        }
     }
 }
 
+// The aggregate at a place of the table.
+#[derive(Clone, Copy)]
+struct Aggregate<'a> {
+    table: Table<'a>,
+    place: usize,
+}
+
+impl fmt::Display for Aggregate<'_> {
+    ghost output = { λ a. Some (aggregate_piece (contents_of a.table) a.place) };
+
+    fn fmt<W: fmt::Write>(&self, f: &mut fmt::Formatter<W>) -> fmt::Result {
+        let aggregate = self.table.aggregate(self.place);
+        let (relation, bound) = (aggregate.relation, aggregate.bound);
+        let kind = Kind(aggregate.kind);
+        let members = Joined {
+            separator: ", ",
+            pieces: Members(self.table),
+            run: aggregate.members,
+        };
+        write!(f, "{kind}{{{members}}} {relation} {bound}")
+    }
+}
+
+// Aggregates, by their places.
 #[derive(Clone, Copy)]
 struct Aggregates<'a>(Table<'a>);
 
-impl Pieces for Aggregates<'_> {
-    ghost piece = { λ s. aggregate_piece (contents_of s.0) };
+impl<'a> Pieces for Aggregates<'a> {
+    type Piece = Aggregate<'a>;
 
-    fn put_piece(&self, out: &mut Vec<u8>, heap: Global, k: usize) -> Result<(), AllocError> {
-        let aggregate = self.0.aggregate(k);
-        put_kind(out, heap, aggregate.kind)?;
-        put(out, b"{")?;
-        put_joined(out, heap, b", ", &Members(self.0), aggregate.members)?;
-        put(out, b"} ")?;
-        put(out, relation_sign(aggregate.relation))?;
-        put(out, b" ")?;
-        put_number(out, heap, aggregate.bound)
+    ghost text = { λ s. aggregate_piece (contents_of s.0) };
+
+    fn piece(&self, place: usize) -> Aggregate<'a> {
+        Aggregate {
+            table: self.0,
+            place,
+        }
     }
 }
 
@@ -71,61 +133,82 @@ fn body(rule: RuleView) -> Run
     }
 }
 
-fn sign(rule: RuleView) -> &'static [u8]
+fn sign(rule: RuleView) -> &'static str
     ensures { result.now ≡ sign_text (places rule.head) (places (body_run rule) ++ places rule.aggregates) }
 {
     if is_empty(rule.head) {
-        return b":- ";
+        return ":- ";
     }
     if is_empty(body(rule)) && is_empty(rule.aggregates) {
-        b""
+        ""
     } else {
-        b" :- "
+        " :- "
     }
 }
 
-fn put_premises(
-    out: &mut Vec<u8>,
-    heap: Global,
-    table: &Table,
+// The positive and the negative statements of a rule, then its aggregates.
+#[derive(Clone, Copy)]
+struct Premises<'a> {
+    table: Table<'a>,
     rule: RuleView,
-) -> Result<(), AllocError>
-    ensures { Adds result out.old out.new (joined (codes ", ") (premise_pieces (contents_of table.now) rule)) }
-{
-    let body = body(rule);
-    let literals = Literals {
-        table: *table,
-        negated: rule.positive.end,
-    };
-    put_joined(out, heap, b", ", &literals, body)?;
-    put(out, sign_between(b", ", body, rule.aggregates))?;
-    put_joined(out, heap, b", ", &Aggregates(*table), rule.aggregates)
 }
 
-pub(crate) fn put_rule(
-    out: &mut Vec<u8>,
-    heap: Global,
-    table: &Table,
-    i: usize,
-) -> Result<(), AllocError>
-    ensures { Adds result out.old out.new (rule_text (contents_of table.now).names (slice_index_or (contents_of table.now).rules i no_rule)) }
-{
-    let rule = table.rule(i);
-    let head = Literals {
-        table: *table,
-        negated: rule.head.end,
-    };
-    put_joined(out, heap, b" | ", &head, rule.head)?;
-    put(out, sign(rule))?;
-    put_premises(out, heap, table, rule)?;
-    put(out, b".")
+impl fmt::Display for Premises<'_> {
+    ghost output = { λ p. Some (joined (codes ", ") (premise_pieces (contents_of p.table) p.rule)) };
+
+    fn fmt<W: fmt::Write>(&self, f: &mut fmt::Formatter<W>) -> fmt::Result {
+        let body = body(self.rule);
+        let literals = Joined {
+            separator: ", ",
+            pieces: Literals {
+                table: self.table,
+                negated: self.rule.positive.end,
+            },
+            run: body,
+        };
+        let sign = sign_between(", ", body, self.rule.aggregates);
+        let aggregates = Joined {
+            separator: ", ",
+            pieces: Aggregates(self.table),
+            run: self.rule.aggregates,
+        };
+        write!(f, "{literals}{sign}{aggregates}")
+    }
 }
 
 // Rule i of the table; past the last one, a rule with nothing in it.
-pub fn rule_text(heap: Global, table: &Table, i: usize) -> Result<Vec<u8>, AllocError>
-    ensures { IfOk result (λ v. v.items ≡ rule_text (contents_of table.now).names (slice_index_or (contents_of table.now).rules i no_rule)) }
+#[derive(Clone, Copy)]
+pub(crate) struct Rule<'a> {
+    pub table: Table<'a>,
+    pub i: usize,
+}
+
+impl fmt::Display for Rule<'_> {
+    ghost output = { λ r. Some (rule_text (contents_of r.table).names (slice_index_or (contents_of r.table).rules r.i no_rule)) };
+
+    fn fmt<W: fmt::Write>(&self, f: &mut fmt::Formatter<W>) -> fmt::Result {
+        let rule = self.table.rule(self.i);
+        let head = Joined {
+            separator: " | ",
+            pieces: Literals {
+                table: self.table,
+                negated: rule.head.end,
+            },
+            run: rule.head,
+        };
+        let sign = sign(rule);
+        let premises = Premises {
+            table: self.table,
+            rule,
+        };
+        write!(f, "{head}{sign}{premises}.")
+    }
+}
+
+// Rule i of the table; past the last one, a rule with nothing in it.
+pub fn rule_text(heap: Global, table: &Table, i: usize) -> Result<String, AllocError>
+    ensures { IfOk result (λ s. string_bytes s ≡ rule_text (contents_of table.now).names (slice_index_or (contents_of table.now).rules i no_rule)) }
 {
-    let mut out = Vec::new(heap);
-    put_rule(&mut out, heap, table, i)?;
-    Ok(out)
+    let rule = Rule { table: *table, i };
+    rule.to_string(heap)
 }

@@ -1,49 +1,32 @@
-ghost use Rattle.notation.specs.Text.{Adds, kind_text, relation_text};
-ghost use Rattle.std.specs.Fmt.{signed_decimal};
-ghost use Rattle.std.specs.Prelude.{◌≡◌};
+ghost use Rattle.notation.specs.Text.{kind_text, name_text};
+ghost use Rattle.std.specs.Prelude.{◌≡◌, Some};
+ghost use Rattle.table.specs.Tables.{contents_of};
 
-use semantics::Relation;
-use std::alloc::{AllocError, Global};
+use std::fmt;
+use std::str::from_utf8;
+use table::table::Table;
 
-// Text is built by adding to the end of out. Want of memory may leave a part of it there.
-
-pub(crate) fn put(out: &mut Vec<u8>, text: &[u8]) -> Result<(), AllocError>
-    ensures { Adds result out.old out.new text.now }
+// The name of a statement; past the last one, no text. What the check accepts has names of visible ASCII signs only.
+pub(crate) fn name<'a>(table: &Table<'a>, statement: u16) -> &'a str
+    ensures { result.now ≡ name_text (contents_of table.now).names statement }
 {
-    out.extend_from_slice(text)
+    from_utf8(table.name(statement)).unwrap_or("")
 }
 
-pub(crate) fn put_number(out: &mut Vec<u8>, heap: Global, n: i32) -> Result<(), AllocError>
-    ensures { Adds result out.old out.new (signed_decimal n) }
-{
-    let digits = n.to_string(heap)?;
-    put(out, digits.as_bytes())
-}
+// The kind of an aggregate. The kinds of the house family have words.
+#[derive(Clone, Copy)]
+pub(crate) struct Kind(pub(crate) u8);
 
-pub(crate) fn put_kind(out: &mut Vec<u8>, heap: Global, kind: u8) -> Result<(), AllocError>
-    ensures { Adds result out.old out.new (kind_text kind) }
-{
-    match kind {
-        0 => put(out, b"count"),
-        1 => put(out, b"sum"),
-        2 => put(out, b"min"),
-        3 => put(out, b"max"),
-        _ => {
-            put(out, b"kind")?;
-            put_number(out, heap, kind as i32)
+impl fmt::Display for Kind {
+    ghost output = { λ k. Some (kind_text k.0) };
+
+    fn fmt<W: fmt::Write>(&self, f: &mut fmt::Formatter<W>) -> fmt::Result {
+        match self.0 {
+            0 => f.write_str("count"),
+            1 => f.write_str("sum"),
+            2 => f.write_str("min"),
+            3 => f.write_str("max"),
+            other => write!(f, "kind{other}"),
         }
-    }
-}
-
-pub(crate) fn relation_sign(relation: Relation) -> &'static [u8]
-    ensures { result.now ≡ relation_text relation }
-{
-    match relation {
-        Relation::Less => b"<",
-        Relation::AtMost => b"<=",
-        Relation::Equal => b"=",
-        Relation::Unequal => b"!=",
-        Relation::AtLeast => b">=",
-        Relation::More => b">",
     }
 }

@@ -1,7 +1,6 @@
 use Rattle.drawing.proofs.Applying.{applied_failed, applied_next, wanted_next}
 use Rattle.drawing.proofs.Deriving.{derived_same, failed_before}
 use Rattle.drawing.proofs.forcing.force_run.Goals as goal
-use Rattle.marking.specs.Marks.{marks_of}
 use Rattle.std.proofs.Common.{Ok, arith}
 use Rattle.table.specs.Tables.{contents_of}
 
@@ -12,15 +11,15 @@ pub returns-in_err-force_other : goal.returns-in_err-force_other
 returns-in_err-force_other c = λ value p w.
     let all = (contents_of c.args.table.now).literals in
     let i = c.loop-k.invariant value p w in
-    let wanted = wanted_next value p all c.args.run.first c.args.run.end c.args.except c.args.present (marks_of c.args.marking.now) (marks_of c.loop-k.marking) c.loop-k.k c.literal.result c.literal.ensures.value c.loop-k.auto.k c.loop-k-test.true w i.0 in
+    let wanted = wanted_next value p all c.args.run.first c.args.run.end c.args.except c.args.present c.args.marking.now c.loop-k.marking c.loop-k.k c.literal-statement.result c.literal-statement.ensures.value c.loop-k.auto.k c.loop-k-test.true w i.0 in
     applied_failed value p _ _ c.from_residual.result _ c.from_residual.ensures.0 (failed_before value p _ _ i.0 (c.in_err-force_other.ensures value p wanted))
 
 pub loop-k-preserved : goal.loop-k-preserved
 loop-k-preserved c = λ value p w.
     let all = (contents_of c.args.table.now).literals in
     let i = c.loop-k.invariant value p w in
-    let wanted = wanted_next value p all c.args.run.first c.args.run.end c.args.except c.args.present (marks_of c.args.marking.now) (marks_of c.loop-k.marking) c.loop-k.k c.literal.result c.literal.ensures.value c.loop-k.auto.k c.loop-k-test.true w i.0 in
-    applied_next value p all c.args.run.first c.args.run.end c.args.except c.args.present (marks_of c.args.marking.now) (marks_of c.loop-k.marking) c.loop-k.k c.literal.result c.literal.ensures.value (marks_of c.force_other.new.marking) (Ok tt) i.0 i.1 (c.in_ok-force_other.ensures value p wanted)
+    let wanted = wanted_next value p all c.args.run.first c.args.run.end c.args.except c.args.present c.args.marking.now c.loop-k.marking c.loop-k.k c.literal-statement.result c.literal-statement.ensures.value c.loop-k.auto.k c.loop-k-test.true w i.0 in
+    applied_next value p all c.args.run.first c.args.run.end c.args.except c.args.present c.args.marking.now c.loop-k.marking c.loop-k.k c.literal-statement.result c.literal-statement.ensures.value c.force_other.new.marking (Ok tt) i.0 i.1 (c.in_ok-force_other.ensures value p wanted)
 
 pub returns : goal.returns
 returns c = λ value p w.

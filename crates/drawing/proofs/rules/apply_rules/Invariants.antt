@@ -1,12 +1,11 @@
 use Rattle.drawing.proofs.rules.apply_rules.Given as goal
 use Rattle.drawing.specs.Sweeps.{AllStanding, Counted, RulesApplied}
-use Rattle.marking.specs.Marks.{marks_of}
-use Rattle.table.specs.Contents.{program}
-use Rattle.table.specs.Tables.{contents_of}
+use Rattle.judging.specs.Rulebooks.{program_of}
+use Rattle.judging.specs.Rulebooks.{contents_in}
 
 -- the rules before this one are done
 abbrev pub invariant-loop-i : goal.invariant-loop-i
 invariant-loop-i g l =
-    Counted (g.F.Family.value l.family) (contents_of l.table).rules 0 (marks_of l.initial.marking) l.initial.supports.by
-    → AllStanding (g.F.Family.value l.family) (contents_of l.table).rules (marks_of l.initial.marking) l.initial.supports.by
-    → RulesApplied (g.F.Family.value l.family) (program (contents_of l.table)) l.i (marks_of l.initial.marking) (marks_of l.marking) l.supports.by
+    Counted (g.F.Family.value l.book.family.now) (contents_in l.book).rules 0 l.initial.marking l.initial.supports.by
+    → AllStanding (g.F.Family.value l.book.family.now) (contents_in l.book).rules l.initial.marking l.initial.supports.by
+    → RulesApplied (g.F.Family.value l.book.family.now) (program_of l.book) l.i l.initial.marking l.marking l.supports.by

@@ -3,7 +3,6 @@ use Rattle.drawing.proofs.statements.apply_statements.Given as goal
 use Rattle.drawing.specs.Deriving.{Derived}
 use Rattle.drawing.specs.Passing.{StatementPassed}
 use Rattle.drawing.specs.Sweeps.{AllStanding, Counted}
-use Rattle.marking.specs.Marks.{marks_of}
 use Rattle.semantics.specs.Families.{Values}
 use Rattle.table.specs.Contents.{program}
 use Rattle.table.specs.Tables.{contents_of}
@@ -11,6 +10,6 @@ use Rattle.table.specs.Tables.{contents_of}
 -- the statements before this one are done
 abbrev pub invariant-loop-statement : goal.invariant-loop-statement
 invariant-loop-statement l =
-    (value : Values) → Counted value (contents_of l.table).rules (length (contents_of l.table).rules) (marks_of l.initial.marking) l.supports.by
-    → Derived value (program (contents_of l.table)) (marks_of l.initial.marking) (marks_of l.marking)
-    × (marks_of l.marking ≡ marks_of l.initial.marking → AllStanding value (contents_of l.table).rules (marks_of l.initial.marking) l.supports.by → (q : ℕ) → q < l.statement → StatementPassed value (contents_of l.table).rules (marks_of l.initial.marking) q)
+    (value : Values) → Counted value (contents_of l.table).rules (length (contents_of l.table).rules) l.initial.marking l.supports.by
+    → Derived value (program (contents_of l.table)) l.initial.marking l.marking
+    × (l.marking ≡ l.initial.marking → AllStanding value (contents_of l.table).rules l.initial.marking l.supports.by → (q : ℕ) → q < l.statement → StatementPassed value (contents_of l.table).rules l.initial.marking q)

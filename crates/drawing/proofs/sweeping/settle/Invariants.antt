@@ -1,12 +1,11 @@
 use Rattle.drawing.proofs.sweeping.settle.Given as goal
 use Rattle.drawing.specs.Deriving.{Derived}
-use Rattle.marking.specs.Marks.{how_open, marks_of}
-use Rattle.table.specs.Contents.{program}
-use Rattle.table.specs.Tables.{contents_of}
+use Rattle.marking.specs.Marks.{how_open}
+use Rattle.judging.specs.Rulebooks.{program_of}
 
 abbrev pub invariant-loop-marking : goal.invariant-loop-marking
-invariant-loop-marking g l = Derived (g.F.Family.value l.family) (program (contents_of l.table)) (marks_of l.initial.marking) (marks_of l.marking)
+invariant-loop-marking g l = Derived (g.F.Family.value l.book.family.now) (program_of l.book) l.initial.marking l.marking
 
 -- each sweep but the last leaves fewer statements open
 abbrev pub decreases-loop-marking : goal.decreases-loop-marking
-decreases-loop-marking g l = how_open (marks_of l.marking)
+decreases-loop-marking g l = how_open l.marking

@@ -1,8 +1,8 @@
-use Rattle.notation.proofs.Reports.{shown_accepted, shown_refused}
+use Rattle.std.proofs.Common.{◌≡◌, string_bytes, IfOk, ap, ◌∙◌, subst}
+use Rattle.notation.proofs.Reports.{table_shown}
 use Rattle.notation.proofs.report.shown.Goals as goal
+use Rattle.notation.specs.Shown.{shown}
 
 pub returns-in-Ok : goal.returns-in-Ok
-returns-in-Ok c = shown_accepted _ _ _ _ c.open.ensures.bytes c.in-Ok.ensures c.table_text.ensures
-
-pub returns-in-Err : goal.returns-in-Err
-returns-in-Err c = shown_refused _ _ _ c.in-Err.ensures c.fault_text.ensures
+returns-in-Ok c =
+    subst (λ t. IfOk c.table_text.result (λ s. string_bytes s ≡ t)) (table_shown _ _ c.in-Ok.ensures ∙ ap shown c.open-table.ensures.bytes) c.table_text.ensures

@@ -1,11 +1,9 @@
-use Rattle.marking.proofs.Noting.{none_noted, noted_from}
+use Rattle.marking.proofs.Noting.{none_noted, noted_next}
 use Rattle.marking.proofs.marking.Marking.noted.Goals as goal
-use Rattle.marking.specs.Marks.{marks_of}
-use Rattle.std.proofs.Common.{◌∙◌, rules}
-use lib.Seq.{drop-length}
+use Rattle.std.proofs.Common.{◌∙◌}
 
-pub loop-k-init : goal.loop-k-init
-loop-k-init c = c.all_open-marking.ensures ∙ rw (drop-length c.args.findings.now) (none_noted _)
+pub loop-finding-init : goal.loop-finding-init
+loop-finding-init c = c.all_open-marking.ensures ∙ none_noted _
 
-pub loop-k-preserved : goal.loop-k-preserved
-loop-k-preserved c = noted_from _ c.args.findings.now c.loop-k.k _ (marks_of c.loop-k.marking) _ c.mark_of.result (search rules) (search rules) c.loop-k.invariant c.mark_of.ensures c.set.ensures
+pub loop-finding-preserved : goal.loop-finding-preserved
+loop-finding-preserved c = noted_next _ c.loop-finding.yielded c.in-Some.finding _ _ _ c.loop-finding.invariant c.from.ensures c.set.ensures
