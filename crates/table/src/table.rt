@@ -11,6 +11,7 @@ use layout::bytes::part;
 use layout::records::Record;
 use refusal::Fault;
 use semantics::{Member, Relation};
+use std::str::from_utf8;
 
 // The places from first to before end of an area.
 #[derive(Clone, Copy)]
@@ -256,11 +257,18 @@ impl<'a> Table<'a> {
         self.record(Area::Members, k).map_or(NO_MEMBER, read_member)
     }
 
-    // The name of a statement; past the last one, no bytes.
-    pub fn name(&self, statement: u16) -> &'a [u8]
+    // The bytes of the name of a statement; past the last one, none.
+    fn name_bytes(&self, statement: u16) -> &'a [u8]
         ensures { result.now ≡ slice_index_or (contents_of self.now).names statement [] }
     {
         self.record(Area::Statements, usize::from(statement))
             .map_or(&[], read_name)
+    }
+
+    // The name of a statement; past the last one, no text. What the check accepts has names of visible ASCII signs only.
+    pub fn name(&self, statement: u16) -> &'a str
+        ensures { result.now ≡ slice_index_or (contents_of self.now).names statement [] }
+    {
+        from_utf8(self.name_bytes(statement)).unwrap_or("")
     }
 }
