@@ -26,6 +26,7 @@ fn check_aggregate(bytes: &[u8], i: u16) -> Result<(), Fault>
     let aggregate = Area::Aggregates.record(bytes, u32::from(i));
     let at = aggregate.at;
     let joined = usize::from(aggregate.word(4)) == members_end(bytes, i);
+    // Stays a number: the format knows no relations, only that there are six codes.
     demand(aggregate.byte(1) <= 5, Refusal::UnknownRelation, at + 1)?;
     demand(
         aggregate.byte(2) <= 128 && joined,

@@ -55,6 +55,8 @@ fn check_offset(bytes: &[u8], area: Area) -> Result<(), Fault>
 }
 
 // The first fault of the six areas, each of which is checked by itself: area a has the faults found a.
+// Stays beside check_each, whose records are numbers: one function over either would ask of each caller a proof of what its
+// iterator yields, which is no plainer than two loops of a line.
 fn check_areas<F: Fn(Area) -> Result<(), Fault>>(check: F) -> Result<(), Fault>
     ghost found: { Area → List Fault }
     requires callable { F.IsAlwaysCallable check }

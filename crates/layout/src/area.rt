@@ -87,6 +87,7 @@ impl Area {
         ensures bytes { result.bytes.now ≡ bytes.now }
         ensures at { result.at ≡ offset bytes.now self + size self * i }
     {
+        // Stays `as`: usize has no From<u32>, and a member's number can pass u16.
         Record {
             bytes,
             at: usize::from(self.offset(bytes)) + self.size() * i as usize,

@@ -56,7 +56,7 @@ impl Refusal {
         self as u8
     }
 
-    // The part of the work that refuses so.
+    // The part of the work that refuses so. Stays a match: it is a fact of each refusal, and no conversion.
     pub fn layer(self) -> Layer
         ensures { result ≡ layer_of self }
     {
