@@ -2,9 +2,9 @@
 use Rattle.std.proofs.Common.{◌≡◌, ℕ, ◌+◌, ◌%◌, ◌<◌, true, false, eqb, List, [], ◌∷◌, ◌++◌, length, ℤ, pos, ◌-ℤ◌, Some, Option, sym, refl, ap, ◌∙◌, subst, ap₂, inl, arith, length-append}
 use Rattle.family.proofs.Extremes.{ExtremesOf, greatest_of, least_of, ordered, some_extremes, wider}
 use Rattle.family.proofs.Picking.{picked_all, picked_among, picked_none, picked_one}
-use Rattle.family.proofs.Readings.{at_all, at_sure, between, nothing_or, numbers_read, only_numbers}
+use Rattle.family.proofs.Readings.{at_all, at_sure, between, numbers_read}
 use Rattle.family.specs.Bags.{Picked, Reached}
-use Rattle.family.specs.Readings.{Reads, Within}
+use Rattle.family.specs.Readings.{Reads, Within, nothing_or, only_numbers}
 use Rattle.family.specs.Spans.{Spans, joined}
 use Rattle.family.specs.declared.reading.Span.{Span}
 use Rattle.semantics.proofs.Families.{none_some, same_some}

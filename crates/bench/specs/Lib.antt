@@ -1,1 +1,1 @@
-pub mod Tallies
+pub mod Kinds

@@ -1,16 +1,19 @@
 #![tactic(auto)]
 
-ghost use Rattle.bench.specs.Tallies.{Tallies};
+ghost use Rattle.bench.specs.Kinds.{number};
+ghost use Rattle.family.specs.Tallies.{Numbers, Tallies};
 ghost use Rattle.semantics.specs.Families.{bench};
 ghost use Rattle.semantics.proofs.Families.{bench_lawful};
 
-use family::{Family, Reading, takes};
+use family::{Family, Reading, Tally};
 
-mod adding;
+mod kind;
 mod reading;
-mod tally;
 
-pub use tally::BenchTally;
+pub use kind::BenchKind;
+
+// What the bench keeps of a bag of sure weights and a bag of open ones, for one kind.
+pub type BenchTally = Tally<BenchKind>;
 
 // The bench family: 0 spread, 1 odd.
 pub struct Bench;
@@ -24,7 +27,7 @@ impl Family for Bench {
 
     ghost value = { λ _. bench };
 
-    ghost tallies = { λ _. Tallies };
+    ghost tallies = { λ _. Tallies (Numbers number 2) };
 
     ghost lawful = { λ f. bench_lawful };
 
@@ -33,38 +36,21 @@ impl Family for Bench {
     }
 
     fn start(&self, kind: u8) -> BenchTally {
-        BenchTally {
-            kind,
-            sure_count: 0,
-            open_count: 0,
-            sure_span: None,
-            open_span: None,
-        }
+        BenchTally::start(kind)
     }
 
     fn add_sure(&self, tally: &mut BenchTally, weight: i32) {
-        if takes(tally.sure_count + tally.open_count, weight) {
-            tally.put_sure(i64::from(weight));
-        }
+        tally.add_sure(weight);
     }
 
     fn add_open(&self, tally: &mut BenchTally, weight: i32) {
-        if takes(tally.sure_count + tally.open_count, weight) {
-            tally.put_open(i64::from(weight));
-        }
+        tally.add_open(weight);
     }
 
     fn read(&self, tally: &BenchTally) -> Reading {
         match tally.kind {
-            0 => tally.spreads(),
-            1 => Reading {
-                nothing: false,
-                numbers: Some(tally.odds()),
-            },
-            _ => Reading {
-                nothing: true,
-                numbers: None,
-            },
+            Some(kind) => kind.read(&tally.sure, &tally.open),
+            None => Reading::nothing_or(None),
         }
     }
 }

@@ -1,11 +1,12 @@
-ghost use Rattle.std.specs.Prelude.{◌≡◌, ℕ, ◌%◌, ◌<◌, List, ℤ, pos, ◌-ℤ◌};
-ghost use Rattle.bench.specs.Tallies.{Tallies};
+ghost use Rattle.std.specs.Prelude.{◌≡◌, ◌%◌, ◌<◌, List, ℤ, pos, ◌-ℤ◌};
+ghost use Rattle.bench.specs.Kinds.{number};
 ghost use Rattle.family.specs.Readings.{Reads};
 ghost use Rattle.family.specs.Spans.{Small};
+ghost use Rattle.family.specs.Tallies.{Keeps};
 ghost use Rattle.semantics.specs.Families.{bench};
 
-use super::tally::BenchTally;
-use family::{Reading, Span};
+use super::kind::BenchKind;
+use family::{Bag, Reading, Span};
 
 // How far the greatest is from the least.
 fn width(span: Span) -> i64
@@ -15,50 +16,51 @@ fn width(span: Span) -> i64
     span.greatest - span.least
 }
 
-impl BenchTally {
-    // With no open weight the spread is least, and with all of them greatest. With no sure weight the spread of one open
-    // weight is least, and that of none is nothing.
-    pub(crate) fn spreads(&self) -> Reading
-        ensures { (k : ℕ) (s o : List ℤ) → Tallies self.now k s o → Reads (bench 0) s o result }
-    {
-        match (self.sure_span, self.open_span) {
-            (None, None) => Reading {
-                nothing: true,
-                numbers: None,
-            },
-            (None, Some(opens)) => Reading {
-                nothing: true,
-                numbers: Some(Span {
-                    least: 0,
-                    greatest: width(opens),
-                }),
-            },
-            (Some(sure), opens) => Reading {
-                nothing: false,
-                numbers: Some(Span {
-                    least: width(sure),
-                    greatest: width(sure.joined(opens)),
-                }),
-            },
+// With no open weight the spread is least, and with all of them greatest. With no sure weight the spread of one open
+// weight is least, and that of none is nothing.
+fn spreads(sure: &Bag, opens: &Bag) -> Reading
+    ensures { (s o : List ℤ) → Keeps sure.now s → Keeps opens.now o → Reads (bench 0) s o result }
+{
+    match (sure.extremes, opens.extremes) {
+        (None, None) => Reading::nothing_or(None),
+        (None, Some(open)) => Reading::nothing_or(Some(Span {
+            least: 0,
+            greatest: width(open),
+        })),
+        (Some(span), open) => Reading::within(Span {
+            least: width(span),
+            greatest: width(span.joined(open)),
+        }),
+    }
+}
+
+// 1 where there is an odd number of weights, and 0 where not. An open weight makes both possible.
+fn odds(sure: &Bag, opens: &Bag) -> Span
+    ensures some { 0 < opens.now.count → (result.least ≡ pos 0) × (result.greatest ≡ pos 1) }
+    ensures none { opens.now.count ≡ 0 → (result.least ≡ pos (sure.now.count % 2)) × (result.greatest ≡ pos (sure.now.count % 2)) }
+{
+    if opens.count > 0 {
+        Span {
+            least: 0,
+            greatest: 1,
+        }
+    } else {
+        let odd = i64::from(sure.count % 2);
+        Span {
+            least: odd,
+            greatest: odd,
         }
     }
+}
 
-    // 1 where there is an odd number of weights, and 0 where not. An open weight makes both possible.
-    pub(crate) fn odds(&self) -> Span
-        ensures some { 0 < self.now.open_count → (result.least ≡ pos 0) × (result.greatest ≡ pos 1) }
-        ensures none { self.now.open_count ≡ 0 → (result.least ≡ pos (self.now.sure_count % 2)) × (result.greatest ≡ pos (self.now.sure_count % 2)) }
+impl BenchKind {
+    // What the bags come to that have every sure weight and some, none or all of the open ones.
+    pub(crate) fn read(self, sure: &Bag, opens: &Bag) -> Reading
+        ensures { (s o : List ℤ) → Keeps sure.now s → Keeps opens.now o → Reads (bench (number self)) s o result }
     {
-        if self.open_count > 0 {
-            Span {
-                least: 0,
-                greatest: 1,
-            }
-        } else {
-            let odd = i64::from(self.sure_count % 2);
-            Span {
-                least: odd,
-                greatest: odd,
-            }
+        match self {
+            BenchKind::Spread => spreads(sure, opens),
+            BenchKind::Odd => Reading::within(odds(sure, opens)),
         }
     }
 }

@@ -2,22 +2,15 @@
 use Rattle.family.proofs.Extremes.{ExtremesOf, joined_of, some_extremes, wider}
 use Rattle.family.proofs.Picking.{picked_all, picked_among, picked_none, picked_one}
 use Rattle.family.specs.Bags.{Picked, Reached}
-use Rattle.family.specs.Readings.{Extremes, Reads, Within}
+use Rattle.family.specs.Readings.{Extremes, Reads, Within, nothing_or, only_numbers}
 use Rattle.family.specs.Spans.{Spans, joined}
-use Rattle.family.specs.declared.reading.Reading.{Reading}
 use Rattle.family.specs.declared.reading.Span.{Span}
 use Rattle.semantics.proofs.Families.{Best, best_among, none_some, same_some}
 use Rattle.semantics.proofs.Lists.{among_either, among_left, among_right}
 use Rattle.semantics.specs.Lists.{Among}
 use Rattle.std.proofs.lemmas.List.{append-nil}
 use Rattle.std.proofs.lemmas.Bool.{false≢true}
-use Rattle.std.proofs.Common.{◌≡◌, true, false, List, [], ◌∷◌, ◌++◌, ℤ, ◌≤ℤ◌, Some, None, Option, sym, refl, ap, ◌∙◌, subst, ⊎_elim, MatchOption}
-
-abbrev pub only_numbers : Span → Reading
-only_numbers s = record { nothing = false; numbers = Some s }
-
-abbrev pub nothing_or : Option Span → Reading
-nothing_or t = record { nothing = true; numbers = t }
+use Rattle.std.proofs.Common.{◌≡◌, List, [], ◌∷◌, ◌++◌, ℤ, ◌≤ℤ◌, Some, None, Option, sym, refl, ap, ◌∙◌, subst, ⊎_elim, MatchOption}
 
 -- no bag is worth a number
 pub nothing_reads : (value : List ℤ → Option ℤ) (s o : List ℤ) → ((v : List ℤ) → value v ≡ None) → Reads value s o (nothing_or None)

@@ -48,3 +48,11 @@ abbrev pub Judges : Verdict → Type 0 → Type 0 → Type 0
 Judges Certain C I = C × (I → ⊥)
 Judges Impossible C I = I × (C → ⊥)
 Judges Neither C I = (C → ⊥) × (I → ⊥)
+
+-- every bag is worth a number, the least and the greatest among them
+abbrev pub only_numbers : Span → Reading
+only_numbers s = record { nothing = false; numbers = Some s }
+
+-- some bag is worth nothing, and others a number where there is one
+abbrev pub nothing_or : Option Span → Reading
+nothing_or t = record { nothing = true; numbers = t }

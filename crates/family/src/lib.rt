@@ -1,9 +1,16 @@
 #![tactic(auto)]
 
+mod bag;
 mod family;
+mod kind;
 mod reading;
+mod tally;
+mod text;
 mod weights;
 
+pub use bag::Bag;
 pub use family::Family;
+pub use kind::LackingKind;
 pub use reading::{Reading, Span, Verdict};
+pub use tally::Tally;
 pub use weights::{takes, widened};

@@ -1,5 +1,6 @@
-ghost use Rattle.family.specs.Readings.{AllStand, Judges, NoneStands, Ordered, SaysCertain, SaysImpossible, Within};
-ghost use Rattle.std.specs.Prelude.{◌≤ℤ◌, Decides};
+ghost use Rattle.family.specs.Readings.{AllStand, Judges, NoneStands, Ordered, SaysCertain, SaysImpossible, Within, nothing_or, only_numbers};
+ghost use Rattle.semantics.specs.Programs.{stands};
+ghost use Rattle.std.specs.Prelude.{◌≡◌, not, ℤ, ◌≤ℤ◌, Decides};
 
 use semantics::Relation;
 
@@ -11,7 +12,8 @@ pub struct Span {
 }
 
 // What the bags of a tally come to: whether some bag is worth nothing, and the least and the greatest number that some
-// bag is worth, where one is worth a number.
+// bag is worth, where one is worth a number. The flag does not say whether there are numbers: some bags may be worth
+// nothing and others a number.
 #[derive(Clone, Copy, PartialEq, Eq, Debug)]
 pub struct Reading {
     pub nothing: bool,
@@ -27,7 +29,8 @@ pub enum Verdict {
 }
 
 impl Span {
-    // Whether the number lies from the least to the greatest.
+    // Whether the number lies from the least to the greatest. Stays two comparisons, which the check proves by itself: a
+    // range's `contains` is no plainer, and its proof has to be written.
     pub fn has(self, z: i64) -> bool
         ensures { Decides result (Within self z) }
     {
@@ -52,18 +55,45 @@ impl Span {
     pub fn none_stands(self, relation: Relation, bound: i64) -> bool
         ensures { self.least ≤ℤ self.greatest → Decides result (NoneStands self relation bound) }
     {
-        match relation {
-            Relation::Less => self.least >= bound,
-            Relation::AtMost => self.least > bound,
-            Relation::Equal => !self.has(bound),
-            Relation::Unequal => self.least == bound && self.greatest == bound,
-            Relation::AtLeast => self.greatest < bound,
-            Relation::More => self.greatest <= bound,
-        }
+        self.all_stand(opposite(relation), bound)
+    }
+}
+
+// The relation in which a number stands to a bound where it does not stand in this one.
+fn opposite(relation: Relation) -> Relation
+    ensures { (z b : ℤ) → stands result z b ≡ not (stands relation z b) }
+{
+    match relation {
+        Relation::Less => Relation::AtLeast,
+        Relation::AtMost => Relation::More,
+        Relation::Equal => Relation::Unequal,
+        Relation::Unequal => Relation::Equal,
+        Relation::AtLeast => Relation::Less,
+        Relation::More => Relation::AtMost,
     }
 }
 
 impl Reading {
+    // Every bag is worth a number, the least and the greatest among them.
+    pub fn within(span: Span) -> Reading
+        ensures { result ≡ only_numbers span }
+    {
+        Reading {
+            nothing: false,
+            numbers: Some(span),
+        }
+    }
+
+    // Some bag is worth nothing, and others a number where there is one.
+    pub fn nothing_or(numbers: Option<Span>) -> Reading
+        ensures { result ≡ nothing_or numbers }
+    {
+        Reading {
+            nothing: true,
+            numbers,
+        }
+    }
+
     // Certain where a number is reached, nothing is not, and every number from the least to the greatest stands in the
     // relation to the bound; impossible where none does, or no number is reached.
     pub fn judge(self, relation: Relation, bound: i64) -> Verdict

@@ -8,7 +8,7 @@ use super::reading::Span;
 pub fn takes(count: u32, weight: i32) -> bool
     ensures { Decides result ((count < 128) × Weight weight) }
 {
-    count < 128 && weight >= -1_000_000 && weight <= 1_000_000
+    count < 128 && (-1_000_000..=1_000_000).contains(&weight)
 }
 
 impl Span {

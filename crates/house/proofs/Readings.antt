@@ -2,12 +2,12 @@
 use Rattle.std.proofs.Common.{◌≡◌, ◌+◌, List, [], ◌++◌, length, ℤ, pos, ◌+ℤ◌, Some, Option, sym, ap, ◌∙◌, arith, length-append}
 use Rattle.family.proofs.Extremes.{ExtremesOf, greatest_of, least_of}
 use Rattle.family.proofs.Picking.{picked_all, picked_length, picked_none}
-use Rattle.family.proofs.Readings.{at_all, at_sure, between, numbers_read, only_numbers}
-use Rattle.family.specs.Readings.{Reads}
+use Rattle.family.proofs.Readings.{at_all, at_sure, between, numbers_read}
+use Rattle.family.specs.Readings.{Reads, only_numbers}
 use Rattle.family.specs.Spans.{Spans, joined}
 use Rattle.family.specs.declared.reading.Span.{Span}
 use Rattle.house.proofs.Sums.{above_picked, below_picked, picked_sum, total_append}
-use Rattle.house.specs.Sums.{above_zero, below_zero, sum_by}
+use Rattle.family.specs.Sums.{above_zero, below_zero, sum_by}
 use Rattle.semantics.specs.Families.{greatest, house, least, total}
 use Rattle.std.proofs.lemmas.List.{append-nil}
 use Rattle.std.proofs.lemmas.Int.{ints}

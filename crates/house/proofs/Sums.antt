@@ -1,6 +1,6 @@
 -- What the sum of a bag comes to with some, none or all of the open weights.
 use Rattle.family.specs.Bags.{Picked}
-use Rattle.house.specs.Sums.{above_zero, below_zero, sum_by}
+use Rattle.family.specs.Sums.{above_zero, below_zero, sum_by}
 use Rattle.semantics.proofs.Families.{cond_either}
 use Rattle.semantics.specs.Families.{total}
 use Rattle.std.proofs.lemmas.Int.{clamps, ints}
@@ -32,3 +32,8 @@ below_picked = sum_picked below_zero (λ w. ⊎_elim inr inl (cond_either (lt_z 
 
 pub above_picked : (o : List ℤ) → (u : List ℤ) × Picked u o × (total u ≡ sum_by above_zero o)
 above_picked = sum_picked above_zero (λ w. cond_either (lt_z (pos 0) w) w (pos 0))
+
+-- the weights below zero and those above come to the whole sum
+pub total_of_parts : (v : List ℤ) → sum_by below_zero v +ℤ sum_by above_zero v ≡ total v
+total_of_parts [] = refl
+total_of_parts (w ∷ v) = omega (arith, ints, clamps, total_of_parts v)

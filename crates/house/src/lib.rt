@@ -1,16 +1,19 @@
 #![tactic(auto)]
 
-ghost use Rattle.house.specs.Tallies.{Tallies};
+ghost use Rattle.family.specs.Tallies.{Numbers, Tallies};
+ghost use Rattle.house.specs.Kinds.{number};
 ghost use Rattle.semantics.specs.Families.{house};
 ghost use Rattle.semantics.proofs.Families.{house_lawful};
 
-use family::{Family, Reading, takes};
+use family::{Family, Reading, Tally};
 
-mod adding;
+mod kind;
 mod reading;
-mod tally;
 
-pub use tally::HouseTally;
+pub use kind::HouseKind;
+
+// What the house keeps of a bag of sure weights and a bag of open ones, for one kind.
+pub type HouseTally = Tally<HouseKind>;
 
 // The house family: 0 count, 1 sum, 2 least weight, 3 greatest weight.
 pub struct House;
@@ -24,7 +27,7 @@ impl Family for House {
 
     ghost value = { λ _. house };
 
-    ghost tallies = { λ _. Tallies };
+    ghost tallies = { λ _. Tallies (Numbers number 4) };
 
     ghost lawful = { λ f. house_lawful };
 
@@ -33,46 +36,21 @@ impl Family for House {
     }
 
     fn start(&self, kind: u8) -> HouseTally {
-        HouseTally {
-            kind,
-            sure_count: 0,
-            open_count: 0,
-            sum: 0,
-            below: 0,
-            above: 0,
-            sure_span: None,
-            open_span: None,
-        }
+        HouseTally::start(kind)
     }
 
     fn add_sure(&self, tally: &mut HouseTally, weight: i32) {
-        if takes(tally.sure_count + tally.open_count, weight) {
-            tally.put_sure(i64::from(weight));
-        }
+        tally.add_sure(weight);
     }
 
     fn add_open(&self, tally: &mut HouseTally, weight: i32) {
-        if takes(tally.sure_count + tally.open_count, weight) {
-            tally.put_open(i64::from(weight));
-        }
+        tally.add_open(weight);
     }
 
     fn read(&self, tally: &HouseTally) -> Reading {
         match tally.kind {
-            0 => Reading {
-                nothing: false,
-                numbers: Some(tally.counts()),
-            },
-            1 => Reading {
-                nothing: false,
-                numbers: Some(tally.sums()),
-            },
-            2 => tally.leasts(),
-            3 => tally.greatests(),
-            _ => Reading {
-                nothing: true,
-                numbers: None,
-            },
+            Some(kind) => kind.read(&tally.sure, &tally.open),
+            None => Reading::nothing_or(None),
         }
     }
 }

@@ -1,70 +1,55 @@
-ghost use Rattle.std.specs.Prelude.{◌≡◌, ℕ, ◌+◌, List, ℤ, pos, ◌+ℤ◌};
+ghost use Rattle.std.specs.Prelude.{◌≡◌, ◌+◌, List, ℤ, pos, ◌+ℤ◌};
 ghost use Rattle.family.specs.Readings.{Reads};
-ghost use Rattle.house.specs.Tallies.{Tallies};
-ghost use Rattle.semantics.specs.Families.{greatest, least};
+ghost use Rattle.family.specs.Tallies.{Keeps};
+ghost use Rattle.house.specs.Kinds.{number};
+ghost use Rattle.semantics.specs.Families.{house};
 
-use super::tally::HouseTally;
-use family::{Reading, Span};
+use super::kind::HouseKind;
+use family::{Bag, Reading, Span};
 
-impl HouseTally {
-    // With no open weight the count is least, and with all of them greatest.
-    pub(crate) fn counts(&self) -> Span
-        ensures least { result.least ≡ pos self.now.sure_count }
-        ensures greatest { result.greatest ≡ pos (self.now.sure_count + self.now.open_count) }
-    {
-        Span {
-            least: i64::from(self.sure_count),
-            greatest: i64::from(self.sure_count + self.open_count),
-        }
+// With no open weight the count is least, and with all of them greatest.
+fn counts(sure: &Bag, opens: &Bag) -> Span
+    ensures least { result.least ≡ pos sure.now.count }
+    ensures greatest { result.greatest ≡ pos (sure.now.count + opens.now.count) }
+{
+    Span {
+        least: i64::from(sure.count),
+        greatest: i64::from(sure.count + opens.count),
     }
+}
 
-    // With the open weights below zero the sum is least, and with those above greatest.
-    pub(crate) fn sums(&self) -> Span
-        ensures least { result.least ≡ self.now.sum +ℤ self.now.below }
-        ensures greatest { result.greatest ≡ self.now.sum +ℤ self.now.above }
-    {
-        Span {
-            least: self.sum + self.below,
-            greatest: self.sum + self.above,
-        }
+// With the open weights below zero the sum is least, and with those above greatest.
+fn sums(sure: &Bag, opens: &Bag) -> Span
+    ensures least { result.least ≡ (sure.now.below +ℤ sure.now.above) +ℤ opens.now.below }
+    ensures greatest { result.greatest ≡ (sure.now.below +ℤ sure.now.above) +ℤ opens.now.above }
+{
+    let sum = sure.below + sure.above;
+    Span {
+        least: sum + opens.below,
+        greatest: sum + opens.above,
     }
+}
 
-    // The least weight is from the least of all to the least sure one. With no sure weight it is any open one, or nothing.
-    pub(crate) fn leasts(&self) -> Reading
-        ensures { (k : ℕ) (s o : List ℤ) → Tallies self.now k s o → Reads least s o result }
+impl HouseKind {
+    // What the bags come to that have every sure weight and some, none or all of the open ones. With no sure weight the
+    // least and the greatest weight are any open one, or nothing.
+    pub(crate) fn read(self, sure: &Bag, opens: &Bag) -> Reading
+        ensures { (s o : List ℤ) → Keeps sure.now s → Keeps opens.now o → Reads (house (number self)) s o result }
     {
-        match self.sure_span {
-            None => Reading {
-                nothing: true,
-                numbers: self.open_span,
-            },
-            Some(sure) => Reading {
-                nothing: false,
-                numbers: Some(Span {
-                    least: sure.joined(self.open_span).least,
-                    greatest: sure.least,
-                }),
-            },
-        }
-    }
-
-    // The greatest weight is from the greatest sure one to the greatest of all. With no sure weight it is any open one, or
-    // nothing.
-    pub(crate) fn greatests(&self) -> Reading
-        ensures { (k : ℕ) (s o : List ℤ) → Tallies self.now k s o → Reads greatest s o result }
-    {
-        match self.sure_span {
-            None => Reading {
-                nothing: true,
-                numbers: self.open_span,
-            },
-            Some(sure) => Reading {
-                nothing: false,
-                numbers: Some(Span {
-                    least: sure.greatest,
-                    greatest: sure.joined(self.open_span).greatest,
-                }),
-            },
+        match (self, sure.extremes) {
+            (HouseKind::Count, _) => Reading::within(counts(sure, opens)),
+            (HouseKind::Sum, _) => Reading::within(sums(sure, opens)),
+            (_, None) => Reading::nothing_or(opens.extremes),
+            // from the least of all to the least sure one
+            (HouseKind::Least, Some(span)) => Reading::within(Span {
+                least: span.joined(opens.extremes).least,
+                greatest: span.least,
+            }),
+            // from the greatest sure one to the greatest of all
+            (HouseKind::Greatest, Some(span)) => Reading::within(Span {
+                least: span.greatest,
+                greatest: span.joined(opens.extremes).greatest,
+            }),
         }
     }
 }

@@ -7,16 +7,26 @@ use house::House;
 // Says of each case what a family reads off its weights. A case is a line: a name, then a colon, the family, the kind,
 // and weights, sure ones after `sure` and open ones after `open`, where `7*3` stands for `7` three times.
 
-fn add<F: Family>(family: &F, tally: &mut F::Tally, word: &str, sure: bool) -> anyhow::Result<()> {
+#[derive(Clone, Copy)]
+enum Standing {
+    Sure,
+    Open,
+}
+
+fn add<F: Family>(
+    family: &F,
+    tally: &mut F::Tally,
+    standing: Standing,
+    word: &str,
+) -> anyhow::Result<()> {
     let (weight, times) = match word.split_once('*') {
         Some((weight, times)) => (weight.parse::<i32>()?, times.parse::<u16>()?),
         None => (word.parse::<i32>()?, 1),
     };
     for _ in 0..times {
-        if sure {
-            family.add_sure(tally, weight);
-        } else {
-            family.add_open(tally, weight);
+        match standing {
+            Standing::Sure => family.add_sure(tally, weight),
+            Standing::Open => family.add_open(tally, weight),
         }
     }
     Ok(())
@@ -24,12 +34,12 @@ fn add<F: Family>(family: &F, tally: &mut F::Tally, word: &str, sure: bool) -> a
 
 fn fill<F: Family>(family: &F, kind: u8, words: &str) -> anyhow::Result<F::Tally> {
     let mut tally = family.start(kind);
-    let mut sure = true;
+    let mut standing = Standing::Sure;
     for word in words.split_whitespace() {
         match word {
-            "sure" => sure = true,
-            "open" => sure = false,
-            _ => add(family, &mut tally, word, sure)?,
+            "sure" => standing = Standing::Sure,
+            "open" => standing = Standing::Open,
+            _ => add(family, &mut tally, standing, word)?,
         }
     }
     Ok(tally)
@@ -48,21 +58,7 @@ fn tell(rt: &HostRuntime, line: &str) -> anyhow::Result<()> {
         "house" => read(&House, words)?,
         _ => read(&Bench, words)?,
     };
-    match reading.numbers {
-        Some(span) => {
-            let (least, greatest) = (span.least, span.greatest);
-            let or = if reading.nothing { "nothing, or " } else { "" };
-            println!(rt; "{name}: {or}from {least} to {greatest}")?;
-        }
-        None => {
-            let value = if reading.nothing {
-                "nothing"
-            } else {
-                "no value"
-            };
-            println!(rt; "{name}: {value}")?;
-        }
-    }
+    println!(rt; "{name}: {reading}")?;
     Ok(())
 }
 

@@ -1,0 +1,24 @@
+use Rattle.std.proofs.Common.{arith}
+use Rattle.std.proofs.lemmas.Int.{clamps, ints, to_z-of_z}
+use Rattle.family.proofs.bag.Bag.put.Goals as goal
+
+pub invariant_of-self-clause-few : goal.invariant_of-self-clause-few
+invariant_of-self-clause-few c = omega arith
+
+pub invariant_of-self-clause-bounded : goal.invariant_of-self-clause-bounded
+invariant_of-self-clause-bounded c = ((omega (arith, ints, clamps), omega (arith, ints, clamps)), (omega (arith, ints, clamps), omega (arith, ints, clamps)))
+
+pub invariant_of-self-clause-small : goal.invariant_of-self-clause-small
+invariant_of-self-clause-small c =
+    let f = c.ranges.weight in
+    (simp to_z-of_z at c.widened-self.ensures.small) c.args.self.now.small c.requires.small
+
+pub returns : goal.returns
+returns c = λ v h.
+    let f = c.ranges.weight in
+    record {
+      count = omega (arith, h.count);
+      below = omega (arith, ints, clamps, h.below);
+      above = omega (arith, ints, clamps, h.above);
+      extremes = (simp to_z-of_z at c.widened-self.ensures.spans) v h.extremes;
+    }

@@ -1,0 +1,50 @@
+ghost use Rattle.std.specs.Prelude.{◌+◌, ◌<◌, ◌≤◌, List, [], ◌∷◌, ℤ};
+ghost use Rattle.family.specs.Spans.{SmallIfAny};
+ghost use Rattle.family.specs.Sums.{Bounded};
+ghost use Rattle.semantics.specs.Families.{Weight};
+
+use super::reading::Span;
+use super::weights::widened;
+
+// What is kept of a bag of weights. Each family reads from it what its kinds need.
+#[derive(Clone, Copy)]
+pub struct Bag {
+    // how many there are
+    pub count: u32,
+    // the sum of those below zero, and of those above
+    pub below: i64,
+    pub above: i64,
+    // the least and the greatest
+    pub extremes: Option<Span>,
+    pub ghost few: { count ≤ 128 },
+    pub ghost bounded: { Bounded below count × Bounded above count },
+    pub ghost small: { SmallIfAny extremes },
+}
+
+impl Bag {
+    ghost use Rattle.family.specs.Tallies.{Keeps};
+
+    // Of a bag with no weights.
+    pub(crate) fn new() -> Bag
+        ensures { Keeps result [] }
+    {
+        Bag {
+            count: 0,
+            below: 0,
+            above: 0,
+            extremes: None,
+        }
+    }
+
+    // Of the bag with one weight more.
+    pub(crate) fn put(&mut self, weight: i64)
+        requires room { self.old.count < 128 }
+        requires small { Weight weight }
+        ensures { (v : List ℤ) → Keeps self.old v → Keeps self.new (weight ∷ v) }
+    {
+        self.count += 1;
+        self.below += weight.min(0);
+        self.above += weight.max(0);
+        self.extremes = widened(self.extremes, weight);
+    }
+}

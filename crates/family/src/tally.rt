@@ -1,0 +1,48 @@
+ghost use Rattle.std.specs.Prelude.{◌≡◌, ℕ, List, [], ◌∷◌, ℤ};
+ghost use Rattle.family.specs.Bags.{Takes};
+ghost use Rattle.family.specs.Tallies.{Tallies};
+
+use super::bag::Bag;
+use super::kind::LackingKind;
+use super::weights::takes;
+
+// What is kept of a bag of sure weights and a bag of open ones, for one kind, or for none that the family has.
+#[derive(Clone, Copy)]
+pub struct Tally<K> {
+    pub kind: Option<K>,
+    pub sure: Bag,
+    pub open: Bag,
+}
+
+impl<K: TryFrom<u8, Error = LackingKind> + Copy> Tally<K> {
+    // Of the kind with this number, with no weights.
+    pub fn start(kind: u8) -> Tally<K>
+        ensures { Tallies K.try_from_gives result kind [] [] }
+    {
+        Tally {
+            kind: K::try_from(kind).ok(),
+            sure: Bag::new(),
+            open: Bag::new(),
+        }
+    }
+
+    // Adds a sure weight. A weight that the tally does not take leaves it as it was.
+    pub fn add_sure(&mut self, weight: i32)
+        ensures added { (k : ℕ) (s o : List ℤ) → Tallies K.try_from_gives self.old k s o → Takes s o weight → Tallies K.try_from_gives self.new k (weight ∷ s) o }
+        ensures kept { (k : ℕ) (s o : List ℤ) → Tallies K.try_from_gives self.old k s o → (Takes s o weight → ⊥) → self.new ≡ self.old }
+    {
+        if takes(self.sure.count + self.open.count, weight) {
+            self.sure.put(i64::from(weight));
+        }
+    }
+
+    // Adds an open weight. A weight that the tally does not take leaves it as it was.
+    pub fn add_open(&mut self, weight: i32)
+        ensures added { (k : ℕ) (s o : List ℤ) → Tallies K.try_from_gives self.old k s o → Takes s o weight → Tallies K.try_from_gives self.new k s (weight ∷ o) }
+        ensures kept { (k : ℕ) (s o : List ℤ) → Tallies K.try_from_gives self.old k s o → (Takes s o weight → ⊥) → self.new ≡ self.old }
+    {
+        if takes(self.sure.count + self.open.count, weight) {
+            self.open.put(i64::from(weight));
+        }
+    }
+}
