@@ -1,8 +1,8 @@
 -- How a sweep, and a run of sweeps, end.
-use Rattle.std.proofs.Common.{◌≡◌, ℕ, ◌<◌, Bool, true, List, length, get_or, replicate, is_err, Some, None, Ok, Err, Option, Result, subst, arith}
+use Rattle.std.proofs.Common.{◌≡◌, ℕ, ◌<◌, ◌≤◌, Bool, true, List, length, get_or, replicate, is_err, Some, None, Ok, Err, Option, Result, sym, subst, arith}
 use Rattle.drawing.proofs.Applying.{applied_on, applied_weaker}
 use Rattle.drawing.proofs.Demanding.{passed_settled}
-use Rattle.drawing.proofs.Deriving.{clash_from, drawn_from}
+use Rattle.drawing.proofs.Deriving.{clash_from, derived_on, drawn_from}
 use Rattle.drawing.specs.Applying.{Applied}
 use Rattle.drawing.specs.Deriving.{Derived, Failed}
 use Rattle.drawing.specs.Drawings.{KeepsAccounts, KeepsAnswers, Settles, SettlesAnswers, TheDrawing}
@@ -52,15 +52,18 @@ module _ (value : Values) (p : Program) where
           (λ g a. let at = among_place p.rules g a in subst (RulePassed value m) (at.2 no_rule) (each at.0 at.1))
           (statements standing)
 
-  -- a sweep that leaves as many statements open has made no mark
-  pub unchanged : (m n : List Mark) → Derived value p m n → how_open n ≡ how_open m → n ≡ m
-  unchanged m n d e = below_same m n d.long d.adds e
+  -- a sweep leaves no more statements open, and one that leaves as many has made no mark
+  pub no_more_open : (m n : List Mark) → Derived value p m n → how_open n ≤ how_open m
+  no_more_open m n d = below_fewer m n d.long d.adds
 
-  pub fewer_open : (m n : List Mark) → Derived value p m n → (how_open n ≡ how_open m → ⊥) → how_open n < how_open m
-  fewer_open m n d e = let l = below_fewer m n d.long d.adds in omega arith
-
-  pub the_drawing : (start m : List Mark) → Derived value p start m → Settled value p.rules m → TheDrawing value p.rules start m
+  the_drawing : (start m : List Mark) → Derived value p start m → Settled value p.rules m → TheDrawing value p.rules start m
   the_drawing start m d st = record { drawn = drawn_from value p start m d st; only = λ n e. drawn_once n m value p.rules start e (drawn_from value p start m d st) }
+
+  -- so the last sweep of a run ends it
+  pub settled_drawn : (start m n : List Mark) → Derived value p start m → Derived value p m n → (n ≡ m → Settled value p.rules m) → how_open n ≡ how_open m → TheDrawing value p.rules start n
+  settled_drawn start m n d s st e =
+      let same : n ≡ m = below_same m n s.long s.adds e in
+      the_drawing start n (derived_on value p start m n d s) (subst (Settled value p.rules) (sym same) (st same))
 
   pub none_drawn : (start m : List Mark) (r : Result (Unit {0}) Clash) → is_err r ≡ true → Failed value p start → Settles value p start m r
   none_drawn start m (Ok _) e f = absurd (false≢true e)

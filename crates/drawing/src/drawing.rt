@@ -27,7 +27,9 @@ pub fn draw_from<F: Family>(table: &Table, family: &F, start: Marking) -> Option
     ensures answers { KeepsAnswers (F.value family.now) (program (contents_of table.now)) start result }
 {
     let mut marking = start;
-    settle(&Rulebook { table, family }, &mut marking).ok()?;
+    let Ok(()) = settle(&Rulebook { table, family }, &mut marking) else {
+        return None;
+    };
     Some(marking)
 }
 

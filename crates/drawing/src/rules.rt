@@ -11,6 +11,9 @@ use family::Family;
 use judging::{Body, Rulebook};
 use marking::Marking;
 
+// What a sweep changes, the marking and the supports, stays apart from the rulebook, which it only reads: a struct of all
+// three would have each method promise that the rules are as before.
+
 // Applies the first and the third step to rule i, and counts it for the statements of its head unless it is refuted.
 fn apply_rule<F: Family>(
     book: &Rulebook<F>,

@@ -2,6 +2,7 @@ ghost use Rattle.drawing.specs.Applying.{Applied};
 ghost use Rattle.drawing.specs.Drawings.{Settles, SettlesAnswers};
 ghost use Rattle.judging.specs.Rulebooks.{program_of};
 ghost use Rattle.semantics.specs.Markings.{Settled};
+ghost use Rattle.std.specs.Prelude.{◌≡◌, ◌↔◌, IsTrue};
 
 use super::forcing::Clash;
 use super::rules::apply_rules;
@@ -21,7 +22,15 @@ fn sweep<F: Family>(book: &Rulebook<F>, marking: &mut Marking) -> Result<(), Cla
     apply_statements(book.table, marking, &supports)
 }
 
-// Sweeps until no step has an open statement to mark, which is so where as many are open as before, or there is a clash.
+// Whether as many statements are open as before. Stays a function of its own: the proof of `settle` is written out, so an
+// edit of its own lines breaks that first, and not a fact about the code.
+fn is_unchanged(before: u16, after: u16) -> bool
+    ensures { IsTrue result ↔ (after ≡ before) }
+{
+    after == before
+}
+
+// Sweeps until no step has an open statement to mark, or there is a clash.
 pub(crate) fn settle<F: Family>(book: &Rulebook<F>, marking: &mut Marking) -> Result<(), Clash>
     ensures drawn { Settles (F.value book.now.family.now) (program_of book.now) marking.old marking.new result }
     ensures answers { SettlesAnswers (F.value book.now.family.now) (program_of book.now) marking.old marking.new result }
@@ -29,7 +38,7 @@ pub(crate) fn settle<F: Family>(book: &Rulebook<F>, marking: &mut Marking) -> Re
     loop {
         let open = marking.open_count();
         sweep(book, marking)?;
-        if marking.open_count() == open {
+        if is_unchanged(open, marking.open_count()) {
             return Ok(());
         }
     }
