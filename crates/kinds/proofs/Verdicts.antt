@@ -14,7 +14,7 @@ use Rattle.table.specs.View.{kind_place}
 -- Ok says that there is no fault
 none_if_ok : {X : Type 0} (fs : List Fault) (x : X) → is_ok (verdict fs x) ≡ true → fs ≡ []
 none_if_ok [] x e = refl
-none_if_ok (f ∷ fs) x e = let z : ◌≡◌ {A = ℕ} 0 1 = cc in absurd (omega arith)
+none_if_ok (f ∷ fs) x e = cc
 
 module _ (kinds : ℕ) (b : List ℕ) where
   -- what is demanded of aggregate j, by what the table shows of it, is what the definition asks
@@ -25,11 +25,8 @@ module _ (kinds : ℕ) (b : List ℕ) where
   pub passed : {i : ℕ} → ((j : ℕ) → j < i → kind_faults kinds b j ≡ []) → length (contents b).aggregates ≤ i → Ok (tt {0}) ≡ verdict (lacking kinds b) tt
   passed none h = each_passed (kind_faults kinds b) _ tt (λ j l. none j (omega arith))
 
-  known_passes : (j : ℕ) → kind_of (contents b).aggregates j < kinds → kind_faults kinds b j ≡ []
-  known_passes j l = sym (cond_below (kind_of (contents b).aggregates j) kinds [] _ l)
-
   pub ok_if_known : (r : Result (Unit {0}) Fault) → r ≡ verdict (lacking kinds b) tt → Decides (is_ok r) (KindsKnown kinds (contents b).aggregates)
   ok_if_known r e = (
-    λ ok j l. ltb-true _ kinds (holds _ _ _ (each_clean (kind_faults kinds b) _ (none_if_ok _ tt (sym (ap is_ok e) ∙ ok)) j l)),
-    λ known. ap is_ok (e ∙ sym (passed (λ j l. known_passes j (known j l)) (le_refl _))),
+    λ ok j l. ltb-true _ kinds (holds _ _ _ (each_clean (kind_faults kinds b) _ (none_if_ok _ tt (ap is_ok (sym e) ∙ ok)) j l)),
+    λ known. ap is_ok (e ∙ sym (passed (λ j l. sym (cond_below _ kinds [] _ (known j l))) (le_refl _))),
   )

@@ -1,28 +1,14 @@
 #![tactic(auto)]
 
-ghost use Rattle.format.specs.Faults.{unless, verdict};
+ghost use Rattle.format.specs.Faults.{verdict};
 ghost use Rattle.kinds.specs.Lacking.{KindsKnown, lacking};
-ghost use Rattle.refusal.specs.declared.Refusal.TheVariants.{LackingKind};
-ghost use Rattle.std.specs.Prelude.{◌≡◌, is_ok, Decides, nat_lt};
+ghost use Rattle.std.specs.Prelude.{◌≡◌, is_ok, Decides};
 ghost use Rattle.table.specs.Tables.{contents_of};
 
 use family::Family;
+use format::fault::demand;
 use refusal::{Fault, Refusal};
 use table::table::Table;
-
-// Refuses a kind that is not below the number of kinds.
-fn demand_kind(kind: u8, kinds: u16, place: usize) -> Result<(), Fault>
-    ensures { result ≡ verdict (unless (nat_lt kind kinds) LackingKind place) tt }
-{
-    if (kind as u16) < kinds {
-        Ok(())
-    } else {
-        Err(Fault {
-            refusal: Refusal::LackingKind,
-            place,
-        })
-    }
-}
 
 // Refuses the first aggregate of the table whose kind the family lacks, at the place of that kind.
 pub fn check_kinds<F: Family>(table: &Table, family: &F) -> Result<(), Fault>
@@ -31,7 +17,8 @@ pub fn check_kinds<F: Family>(table: &Table, family: &F) -> Result<(), Fault>
 {
     let kinds = family.kinds();
     for j in 0..table.aggregates() {
-        demand_kind(table.aggregate(j).kind, kinds, table.kind_place(j))?;
+        let kind = u16::from(table.aggregate(j).kind);
+        demand(kind < kinds, Refusal::LackingKind, table.kind_place(j))?;
     }
     Ok(())
 }

@@ -1,14 +1,14 @@
 -- What is known of bytes that have no fault, record by record.
-use Rattle.std.proofs.Common.{◌≡◌, ℕ, ◌<◌, ◌≤◌, Bool, true, false, eqb, leb, List, [], ◌∷◌, length, refl, arith}
+use Rattle.std.proofs.Common.{◌≡◌, ℕ, ◌<◌, ◌≤◌, Bool, true, false, eqb, leb, List, [], ◌∷◌, length, refl}
 use Rattle.format.proofs.Verdicts.{each_clean, parts}
-use Rattle.format.specs.Aggregates.{aggregate_faults, all_aggregate_faults, first_member, member_count, member_faults, members_end}
+use Rattle.format.specs.Aggregates.{aggregate_faults, all_aggregate_faults, member_count, member_faults, members_end}
 use Rattle.layout.specs.Bytes.{word_at}
 use Rattle.format.specs.Check.{accepted, faults, none}
 use Rattle.format.specs.Faults.{each, unless, when}
 use Rattle.format.specs.Header.{area_end, count_faults, end_before, every_area, header_faults, offset_faults}
 use Rattle.layout.specs.Areas.{count, most, offset}
-use Rattle.format.specs.Rules.{aggregates_end, all_literal_faults, all_rule_faults, first_aggregate, first_literal, literal_faults, literals_end, rule_faults}
-use Rattle.format.specs.Statements.{all_statement_faults, name_byte_faults, name_start, names_end, same_name_faults, statement_faults}
+use Rattle.format.specs.Rules.{aggregates_end, all_literal_faults, all_rule_faults, literal_faults, literals_end, rule_faults}
+use Rattle.format.specs.Statements.{all_statement_faults, name_byte_faults, names_end, same_name_faults, statement_faults}
 use Rattle.layout.specs.declared.area.Area.{Area}
 use Rattle.layout.specs.declared.area.Area.TheVariants.{Statements, Rules, Literals, Aggregates, Members, Names}
 use Rattle.refusal.specs.declared.Fault.{Fault}
@@ -18,7 +18,7 @@ use Rattle.std.proofs.lemmas.Bool.{eqb-true, leb-true}
 
 none_empty : (fs : List Fault) → none fs ≡ true → fs ≡ []
 none_empty [] e = refl
-none_empty (f ∷ fs) e = let z : ◌≡◌ {A = ℕ} 0 1 = cc in absurd (omega arith)
+none_empty (f ∷ fs) e = cc
 
 no_faults : (b : List ℕ) → accepted b ≡ true → faults b ≡ []
 unfolding accepted
@@ -26,11 +26,11 @@ no_faults b e = none_empty (faults b) e
 
 pub holds : (t : Bool) (r : Refusal) (p : ℕ) → unless t r p ≡ [] → t ≡ true
 holds true r p e = refl
-holds false r p e = let z : ◌≡◌ {A = ℕ} 0 1 = cc in absurd (omega arith)
+holds false r p e = cc
 
 pub fails : (t : Bool) (r : Refusal) (p : ℕ) → when t r p ≡ [] → t ≡ false
 fails false r p e = refl
-fails true r p e = let z : ◌≡◌ {A = ℕ} 0 1 = cc in absurd (omega arith)
+fails true r p e = cc
 
 -- the parts of the list of faults, each empty
 pub record Clean (b : List ℕ) : Type 0 where
@@ -77,12 +77,20 @@ clean b ok =
 
 -- the six parts of a list of faults of the areas
 every_part : (f : Area → List Fault) → every_area f ≡ [] → (a : Area) → f a ≡ []
-every_part f e Statements = (parts (f Statements) _ e).0
-every_part f e Rules = (parts (f Rules) _ (parts (f Statements) _ e).1).0
-every_part f e Literals = (parts (f Literals) _ (parts (f Rules) _ (parts (f Statements) _ e).1).1).0
-every_part f e Aggregates = (parts (f Aggregates) _ (parts (f Literals) _ (parts (f Rules) _ (parts (f Statements) _ e).1).1).1).0
-every_part f e Members = (parts (f Members) _ (parts (f Aggregates) _ (parts (f Literals) _ (parts (f Rules) _ (parts (f Statements) _ e).1).1).1).1).0
-every_part f e Names = (parts (f Members) _ (parts (f Aggregates) _ (parts (f Literals) _ (parts (f Rules) _ (parts (f Statements) _ e).1).1).1).1).1
+every_part f e a =
+    let past_statements = parts (f Statements) _ e in
+    let past_rules = parts (f Rules) _ past_statements.1 in
+    let past_literals = parts (f Literals) _ past_rules.1 in
+    let past_aggregates = parts (f Aggregates) _ past_literals.1 in
+    let past_members = parts (f Members) _ past_aggregates.1 in
+    elim a as (λ v. f v ≡ []) [
+      | Statements ↦ past_statements.0
+      | Rules ↦ past_rules.0
+      | Literals ↦ past_literals.0
+      | Aggregates ↦ past_aggregates.0
+      | Members ↦ past_members.0
+      | Names ↦ past_members.1
+    ]
 
 module _ (b : List ℕ) (c : Clean b) where
   abbrev of_header : ((unless (leb 28 (length b)) TooShort (length b) ≡ []) × (unless (eqb (word_at b 0) 1) WrongFormat 0 ≡ []) × (unless (eqb (word_at b 2) (length b)) WrongLength 2 ≡ []) × (every_area (count_faults b) ≡ []) × (every_area (offset_faults b) ≡ []) × (unless (eqb (area_end b Names) (length b)) NamesNotLast 24 ≡ []))
@@ -108,28 +116,3 @@ module _ (b : List ℕ) (c : Clean b) where
 
   pub areas_end : area_end b Names ≡ length b
   areas_end = eqb-true _ _ (holds _ _ _ of_header.5)
-
-name_follows : (b : List ℕ) (i : ℕ) → statement_faults b i ≡ [] → name_start b i ≡ names_end b i
-name_follows b i e = grind (arith, holds, parts)
-
-literals_follow : (b : List ℕ) (i : ℕ) → rule_faults b i ≡ [] → first_literal b i ≡ literals_end b i
-literals_follow b i e = grind (arith, holds, parts)
-
-aggregates_follow : (b : List ℕ) (i : ℕ) → rule_faults b i ≡ [] → first_aggregate b i ≡ aggregates_end b i
-aggregates_follow b i e = grind (arith, holds, parts)
-
-members_follow : (b : List ℕ) (j : ℕ) → aggregate_faults b j ≡ [] → first_member b j ≡ members_end b j
-members_follow b j e = grind (arith, holds, parts)
-
-module _ (b : List ℕ) (c : Clean b) where
-  pub name_joined : (i : ℕ) → i < count b Statements → name_start b i ≡ names_end b i
-  name_joined i l = name_follows b i (c.statement i l)
-
-  pub literal_joined : (i : ℕ) → i < count b Rules → first_literal b i ≡ literals_end b i
-  literal_joined i l = literals_follow b i (c.rule i l)
-
-  pub aggregate_joined : (i : ℕ) → i < count b Rules → first_aggregate b i ≡ aggregates_end b i
-  aggregate_joined i l = aggregates_follow b i (c.rule i l)
-
-  pub member_joined : (j : ℕ) → j < count b Aggregates → first_member b j ≡ members_end b j
-  member_joined j l = members_follow b j (c.aggregate j l)

@@ -8,8 +8,7 @@ use Rattle.format.specs.Rules.{aggregate_count, first_aggregate, first_literal, 
 use Rattle.format.specs.Statements.{name_at, name_length, name_start, statement_at}
 use Rattle.layout.specs.declared.area.Area.{Area}
 use Rattle.layout.specs.declared.area.Area.TheVariants.{Statements, Rules, Literals, Aggregates, Members, Names}
-use Rattle.semantics.specs.declared.Relation.{Relation}
-use Rattle.semantics.specs.declared.Relation.TheVariants.{Less, AtMost, Equal, Unequal, AtLeast, More}
+use Rattle.semantics.specs.Codes.{code_of}
 use Rattle.std.specs.List.{flat_map}
 use Rattle.table.proofs.Alike.{Alike, ◌then◌, alike_moved, alike_number, alike_records, alike_slices, alike_whole, alike_word, both_zero, same_byte}
 use Rattle.table.proofs.Clean.{Clean, area_joined, areas_end, clean, is_format, is_length}
@@ -19,15 +18,6 @@ use Rattle.table.proofs.Runs.{run_with, same_starts}
 use Rattle.table.proofs.Slices.{same_counted}
 use Rattle.table.specs.Contents.{aggregate_held, aggregates_held, literals_held, member_held, members_held, names_held, relation_of, rule_held, rules_held}
 use Rattle.table.specs.Limits.{Bytes, OnlyBytes}
-
--- the code of each relation
-abbrev code_of : Relation → ℕ
-code_of Less = 0
-code_of AtMost = 1
-code_of Equal = 2
-code_of Unequal = 3
-code_of AtLeast = 4
-code_of More = 5
 
 relation_code : (k : ℕ) → k ≤ 5 → code_of (relation_of k) ≡ k
 relation_code zero l = refl
@@ -191,12 +181,19 @@ module _ (b o : List ℕ) (bytes : Bytes b) (bytes' : Bytes o) (c : Clean b) (d 
 
   -- from area to area, in both lists
   through_areas : (P : ℕ → ℕ → Type 0) → ((a : Area) → P (end_before b a) (end_before o a) → P (area_end b a) (area_end o a)) → P 28 28 → (a : Area) → P (end_before b a) (end_before o a)
-  through_areas P past start Statements = start
-  through_areas P past start Rules = past Statements start
-  through_areas P past start Literals = past Rules (past Statements start)
-  through_areas P past start Aggregates = past Literals (past Rules (past Statements start))
-  through_areas P past start Members = past Aggregates (past Literals (past Rules (past Statements start)))
-  through_areas P past start Names = past Members (past Aggregates (past Literals (past Rules (past Statements start))))
+  through_areas P past start a =
+      let rules = past Statements start in
+      let literals = past Rules rules in
+      let aggregates = past Literals literals in
+      let members = past Aggregates aggregates in
+      elim a as (λ v. P (end_before b v) (end_before o v)) [
+        | Statements ↦ start
+        | Rules ↦ rules
+        | Literals ↦ literals
+        | Aggregates ↦ aggregates
+        | Members ↦ members
+        | Names ↦ past Members members
+      ]
 
   same_start : (a : Area) → end_before b a ≡ end_before o a → offset b a ≡ offset o a
   same_start a e = area_joined b c a ∙ e ∙ sym (area_joined o d a)

@@ -1,5 +1,5 @@
 -- What bytes without faults hold: how much of each kind, how long each part is, and that the parts put together are the whole.
-use Rattle.std.proofs.Common.{◌≡◌, ℕ, ◌+◌, ◌<◌, true, List, ◌++◌, length, sym, refl, ◌∙◌, arith}
+use Rattle.std.proofs.Common.{◌≡◌, ℕ, ◌+◌, ◌<◌, ◌≤◌, true, List, ◌++◌, length, sym, refl, ◌∙◌, arith}
 use Rattle.format.specs.Aggregates.{first_member, member_count}
 use Rattle.format.specs.Check.{accepted}
 use Rattle.layout.specs.Areas.{count, offset}
@@ -59,14 +59,17 @@ module _ (b : List ℕ) (c : Clean b) where
   pub name_long : (i : ℕ) → i < count b Statements → length (name_at b i) ≡ name_length b i
   name_long i l = length_slice (offset b Names + name_start b i) (name_length b i) b (omega (arith, areas_end b c, name_inside b c i l))
 
+  literals_long : (first n : ℕ) → first + n ≤ count b Literals → length (slice first n (literals_held b)) ≡ n
+  literals_long first n inside = length_slice first n (literals_held b) (omega (arith, literals_count))
+
   pub head_long : (i : ℕ) → i < count b Rules → length (rule_held b i).head ≡ head_count b i
-  head_long i l = length_slice (first_literal b i) (head_count b i) (literals_held b) (omega (arith, literals_count, literals_inside b c i l))
+  head_long i l = literals_long _ (head_count b i) (omega (arith, literals_inside b c i l))
 
   pub positive_long : (i : ℕ) → i < count b Rules → length (rule_held b i).positive ≡ positive_count b i
-  positive_long i l = length_slice (first_literal b i + head_count b i) (positive_count b i) (literals_held b) (omega (arith, literals_count, literals_inside b c i l))
+  positive_long i l = literals_long _ (positive_count b i) (omega (arith, literals_inside b c i l))
 
   pub negative_long : (i : ℕ) → i < count b Rules → length (rule_held b i).negative ≡ negative_count b i
-  negative_long i l = length_slice (first_literal b i + head_count b i + positive_count b i) (negative_count b i) (literals_held b) (omega (arith, literals_count, literals_inside b c i l))
+  negative_long i l = literals_long _ (negative_count b i) (omega (arith, literals_inside b c i l))
 
   pub aggregates_long : (i : ℕ) → i < count b Rules → length (rule_held b i).aggregates ≡ aggregate_count b i
   aggregates_long i l = length_slice (first_aggregate b i) (aggregate_count b i) (aggregates_held b) (omega (arith, aggregates_count b, aggregates_inside b c i l))

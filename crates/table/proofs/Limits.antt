@@ -1,5 +1,5 @@
 -- What bytes without faults hold is within the limits of the format.
-use Rattle.std.proofs.Common.{◌≡◌, ℕ, ◌+◌, ◌<◌, ◌≤◌, Bool, true, false, cond, List, [], ◌∷◌, ◌++◌, length, get_or, ℤ, pos, negsuc, ◌≤ℤ◌, sym, refl, ap, ◌∙◌, add_assoc, arith}
+use Rattle.std.proofs.Common.{◌≡◌, ℕ, ◌+◌, ◌<◌, ◌≤◌, Bool, true, false, cond, List, [], ◌∷◌, length, get_or, ℤ, pos, negsuc, ◌≤ℤ◌, sym, refl, ap, ◌∙◌, add_assoc, arith}
 use Rattle.format.specs.Aggregates.{aggregate_at, first_member, member_count, weight_fits}
 use Rattle.layout.specs.Bytes.{byte_at}
 use Rattle.format.specs.Check.{accepted}
@@ -16,52 +16,45 @@ use Rattle.std.proofs.lemmas.List.{length-append}
 use Rattle.std.proofs.lemmas.Int.{ints}
 use Rattle.std.proofs.lemmas.Bool.{and_parts}
 use Rattle.std.proofs.lemmas.Bool.Decides.{not_from_Decides}
-use Rattle.std.specs.List.{flat_map}
+use Rattle.std.proofs.lemmas.List.Concat.{length-flat_map}
+use Rattle.std.proofs.lemmas.List.Sums.{sum_by-append, sum_by-cons}
+use Rattle.std.specs.List.{flat_map, sum_by}
 use Rattle.table.proofs.Clean.{Clean, clean, fails, few}
 use Rattle.table.proofs.Held.{aggregates_count, aggregates_long, aggregates_whole, contents_held, head_long, letters_count, letters_whole, literals_count, literals_of, literals_whole, members_count, members_long, members_whole, name_long, names_count, negative_long, positive_long, rules_count}
 use Rattle.table.proofs.Numbers.{whole_fits}
 use Rattle.table.proofs.Records.{aggregate_fits, aggregates_inside, letter_fits, literal_fits, literals_inside, member_fits, members_inside, name_inside, rule_fits, statement_fits}
 use Rattle.table.proofs.Slices.{among_counted, among_counted_slice, among_slice, slice_at}
 use Rattle.table.specs.Contents.{aggregate_held, aggregates_held, contents, held, literals_held, member_held, members_held, names_held, nothing, rule_held, rules_held, slice}
-use Rattle.table.specs.Limits.{AggregateLimits, Bytes, Distinct, Letter, MemberLimits, NameLimits, RuleLimits, WithinLimits, literals_in, size_of}
+use Rattle.table.specs.Limits.{AggregateLimits, Bytes, Distinct, Letter, MemberLimits, NameLimits, RuleLimits, WithinLimits, literals_in}
 use lib.Signed.{le_z}
 
 -- the sizes of the parts are in all the size of the whole
-size_append : {X : Type 0} (f : X → ℕ) (xs ys : List X) → size_of f (xs ++ ys) ≡ size_of f xs + size_of f ys
-size_append f [] ys = omega arith
-size_append f (x ∷ xs) ys = omega (arith, size_append f xs ys)
-
-module _ {X Y : Type 0} (part : Y → List X) where
-  length_total : (long : Y → ℕ) → ((y : Y) → length (part y) ≡ long y) → (ys : List Y) → size_of long ys ≡ length (flat_map part ys)
-  length_total long is [] = refl
-  length_total long is (y ∷ ys) = omega (arith, length_total long is ys, is y, length-append (part y) (flat_map part ys))
-
-  size_total : (f : X → ℕ) (ys : List Y) → size_of (λ y. size_of f (part y)) ys ≡ size_of f (flat_map part ys)
-  size_total f [] = refl
-  size_total f (y ∷ ys) = omega (arith, size_total f ys, size_append f (part y) (flat_map part ys))
+size_total : {X Y : Type 0} (part : Y → List X) (f : X → ℕ) (ys : List Y) → sum_by (λ y. sum_by f (part y)) ys ≡ sum_by f (flat_map part ys)
+size_total part f [] = refl
+size_total part f (y ∷ ys) =
+    sum_by-cons (λ x. sum_by f (part x)) y ys
+    ∙ (ap (λ n. sum_by f (part y) + n) (size_total part f ys) ∙ sym (sum_by-append f (part y) (flat_map part ys)))
 
 weight_range : (w : ℤ) → weight_fits w ≡ true → (negsuc 999999 ≤ℤ w) × (w ≤ℤ pos 1000000)
 weight_range w e = let p = and_parts (le_z (negsuc 999999) w) (le_z w (pos 1000000)) e in (omega (arith, ints, p.0), omega (arith, ints, p.1))
 
 module _ (b : List ℕ) (c : Clean b) where
   -- totals
-  literals_total : size_of literals_in (rules_held b) ≡ count b Literals
-  literals_total =
-      length_total literals_of literals_in (λ r. simp length-append) (rules_held b) ∙ ap length (literals_whole b c) ∙ literals_count b c
+  literals_total : sum_by literals_in (rules_held b) ≡ count b Literals
+  literals_total = sym (simp length-append at (length-flat_map literals_of (rules_held b))) ∙ ap length (literals_whole b c) ∙ literals_count b c
 
-  aggregates_total : size_of (λ r. length r.aggregates) (rules_held b) ≡ count b Aggregates
-  aggregates_total =
-      length_total (λ r. r.aggregates) _ (λ r. refl) (rules_held b) ∙ ap length (aggregates_whole b c) ∙ aggregates_count b
+  aggregates_total : sum_by (λ r. length r.aggregates) (rules_held b) ≡ count b Aggregates
+  aggregates_total = sym (length-flat_map (λ r. r.aggregates) (rules_held b)) ∙ ap length (aggregates_whole b c) ∙ aggregates_count b
 
-  members_total : size_of (λ r. size_of (λ g. length g.members) r.aggregates) (rules_held b) ≡ count b Members
+  members_total : sum_by (λ r. sum_by (λ g. length g.members) r.aggregates) (rules_held b) ≡ count b Members
   members_total =
       size_total (λ r. r.aggregates) (λ g. length g.members) (rules_held b)
-      ∙ ap (size_of (λ g. length g.members)) (aggregates_whole b c)
-      ∙ length_total (λ g. g.members) _ (λ g. refl) (aggregates_held b)
+      ∙ ap (sum_by (λ g. length g.members)) (aggregates_whole b c)
+      ∙ sym (length-flat_map (λ g. g.members) (aggregates_held b))
       ∙ ap length (members_whole b c) ∙ members_count b
 
-  pub names_total : size_of length (names_held b) ≡ count b Names
-  names_total = length_total (λ name. name) length (λ name. refl) (names_held b) ∙ ap length (letters_whole b c) ∙ letters_count b c
+  pub names_total : sum_by length (names_held b) ≡ count b Names
+  names_total = sym (length-flat_map (λ name. name) (names_held b)) ∙ ap length (letters_whole b c) ∙ letters_count b c
 
   -- names
   name_letters : (i : ℕ) → i < count b Statements → (x : ℕ) → Among x (name_at b i) → Letter x

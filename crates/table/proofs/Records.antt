@@ -9,37 +9,31 @@ use Rattle.format.specs.Rules.{aggregate_count, aggregates_end, first_aggregate,
 use Rattle.format.specs.Statements.{name_byte_faults, name_length, name_start, names_end, statement_at, statement_faults}
 use Rattle.layout.specs.declared.area.Area.TheVariants.{Statements, Rules, Literals, Aggregates, Members, Names}
 use Rattle.std.proofs.lemmas.Bool.{eqb-false}
-use Rattle.table.proofs.Clean.{Clean, aggregate_joined, fails, holds, literal_joined, member_joined, name_joined}
+use Rattle.table.proofs.Clean.{Clean, fails, holds}
 use Rattle.table.proofs.Runs.{Runs, run_inside}
 
 pub record StatementFits (b : List ℕ) (i : ℕ) : Type 0 where
   pub some : 1 ≤ name_length b i
   pub few : name_length b i ≤ 32
+  pub joined : name_start b i ≡ names_end b i
   pub padded : byte_at b (statement_at b i + 3) ≡ 0
 
 pub statement_fits : (b : List ℕ) (i : ℕ) → statement_faults b i ≡ [] → StatementFits b i
-statement_fits b i e = record {
-  some = grind (arith, holds, parts);
-  few = grind (arith, holds, parts);
-  padded = grind (arith, holds, parts);
-}
+statement_fits b i e = grind (arith, holds, parts)
 
 pub letter_fits : (b : List ℕ) (k : ℕ) → name_byte_faults b k ≡ [] → (33 ≤ byte_at b (offset b Names + k)) × (byte_at b (offset b Names + k) ≤ 126)
-letter_fits b k e = (grind (arith, holds), grind (arith, holds))
+letter_fits b k e = grind (arith, holds)
 
 pub record RuleFits (b : List ℕ) (i : ℕ) : Type 0 where
   pub head : head_count b i ≤ 8
   pub positive : positive_count b i ≤ 32
   pub negative : negative_count b i ≤ 32
   pub aggregates : aggregate_count b i ≤ 4
+  pub literals_joined : first_literal b i ≡ literals_end b i
+  pub aggregates_joined : first_aggregate b i ≡ aggregates_end b i
 
 pub rule_fits : (b : List ℕ) (i : ℕ) → rule_faults b i ≡ [] → RuleFits b i
-rule_fits b i e = record {
-  head = grind (arith, holds, parts);
-  positive = grind (arith, holds, parts);
-  negative = grind (arith, holds, parts);
-  aggregates = grind (arith, holds, parts);
-}
+rule_fits b i e = grind (arith, holds, parts)
 
 pub literal_fits : (b : List ℕ) (k : ℕ) → literal_faults b k ≡ [] → byte_at b (offset b Literals + k) < count b Statements
 literal_fits b k e = grind (arith, holds)
@@ -47,18 +41,13 @@ literal_fits b k e = grind (arith, holds)
 pub record AggregateFits (b : List ℕ) (j : ℕ) : Type 0 where
   pub relation : byte_at b (aggregate_at b j + 1) ≤ 5
   pub few : member_count b j ≤ 128
+  pub joined : first_member b j ≡ members_end b j
   pub padded : byte_at b (aggregate_at b j + 3) ≡ 0
   pub padded_low : byte_at b (aggregate_at b j + 6) ≡ 0
   pub padded_high : byte_at b (aggregate_at b j + 7) ≡ 0
 
 pub aggregate_fits : (b : List ℕ) (j : ℕ) → aggregate_faults b j ≡ [] → AggregateFits b j
-aggregate_fits b j e = record {
-  relation = grind (arith, holds, parts);
-  few = grind (arith, holds, parts);
-  padded = grind (arith, holds, parts);
-  padded_low = grind (arith, holds, parts);
-  padded_high = grind (arith, holds, parts);
-}
+aggregate_fits b j e = grind (arith, holds, parts)
 
 pub record MemberFits (b : List ℕ) (j k : ℕ) : Type 0 where
   pub known : byte_at b (member_at b j k) < count b Statements
@@ -86,16 +75,16 @@ member_fits b j k e = record {
 
 module _ (b : List ℕ) (c : Clean b) where
   pub name_runs : Runs (names_end b) (name_start b) (name_length b) (count b Statements)
-  name_runs = record { from_zero = refl; next = λ i. refl; follows = name_joined b c }
+  name_runs = record { from_zero = refl; next = λ i. refl; follows = λ i l. (statement_fits b i (c.statement i l)).joined }
 
   pub literal_runs : Runs (literals_end b) (first_literal b) (literal_count b) (count b Rules)
-  literal_runs = record { from_zero = refl; next = λ i. refl; follows = literal_joined b c }
+  literal_runs = record { from_zero = refl; next = λ i. refl; follows = λ i l. (rule_fits b i (c.rule i l)).literals_joined }
 
   pub aggregate_runs : Runs (aggregates_end b) (first_aggregate b) (aggregate_count b) (count b Rules)
-  aggregate_runs = record { from_zero = refl; next = λ i. refl; follows = aggregate_joined b c }
+  aggregate_runs = record { from_zero = refl; next = λ i. refl; follows = λ i l. (rule_fits b i (c.rule i l)).aggregates_joined }
 
   pub member_runs : Runs (members_end b) (first_member b) (member_count b) (count b Aggregates)
-  member_runs = record { from_zero = refl; next = λ i. refl; follows = member_joined b c }
+  member_runs = record { from_zero = refl; next = λ i. refl; follows = λ j l. (aggregate_fits b j (c.aggregate j l)).joined }
 
   -- every run lies inside its area
   pub name_inside : (i : ℕ) → i < count b Statements → name_start b i + name_length b i ≤ count b Names

@@ -1,5 +1,5 @@
 -- What the format allows, said of what the bytes stand for.
-use Rattle.std.specs.Prelude.{◌≡◌, ℕ, ◌+◌, ◌<◌, ◌≤◌, true, List, [], ◌∷◌, length, pos, negsuc, ◌≤ℤ◌, ◌≢◌, slice_index, slice_index_or}
+use Rattle.std.specs.Prelude.{◌≡◌, ℕ, ◌+◌, ◌<◌, ◌≤◌, true, List, [], length, pos, negsuc, ◌≤ℤ◌, ◌≢◌, slice_index, slice_index_or, sum_by}
 use Rattle.format.specs.Check.{accepted}
 use Rattle.layout.specs.declared.area.Area.{Area}
 use Rattle.layout.specs.declared.area.Area.TheVariants.{Statements, Rules, Literals, Aggregates, Members, Names}
@@ -7,11 +7,6 @@ use Rattle.semantics.specs.Lists.{Among}
 use Rattle.semantics.specs.Programs.{Aggregate, Rule}
 use Rattle.semantics.specs.declared.Member.{Member}
 use Rattle.table.specs.Contents.{Contents, contents}
-
--- how many elements the lists have in all
-abbrev pub size_of : {X : Type 0} → (X → ℕ) → List X → ℕ
-size_of f [] = 0
-size_of f (x ∷ xs) = f x + size_of f xs
 
 abbrev pub literals_in : Rule → ℕ
 literals_in r = length r.head + length r.positive + length r.negative
@@ -23,7 +18,7 @@ how_many c Rules = length c.rules
 how_many c Literals = length c.literals
 how_many c Aggregates = length c.aggregates
 how_many c Members = length c.members
-how_many c Names = size_of length c.names
+how_many c Names = sum_by length c.names
 
 -- no two places of the list hold the same
 abbrev pub Distinct : {X : Type 0} → (ℕ → X) → ℕ → Type 0
@@ -64,10 +59,10 @@ pub record RuleLimits (statements : ℕ) (r : Rule) : Type 0 where
 pub record WithinLimits (c : Contents) : Type 0 where
   pub statements : length c.names ≤ 128
   pub rules : length c.rules ≤ 1024
-  pub literals : size_of literals_in c.rules ≤ 8192
-  pub aggregates : size_of (λ r. length r.aggregates) c.rules ≤ 1024
-  pub members : size_of (λ r. size_of (λ g. length g.members) r.aggregates) c.rules ≤ 2048
-  pub names : size_of length c.names ≤ 4096
+  pub literals : sum_by literals_in c.rules ≤ 8192
+  pub aggregates : sum_by (λ r. length r.aggregates) c.rules ≤ 1024
+  pub members : sum_by (λ r. sum_by (λ g. length g.members) r.aggregates) c.rules ≤ 2048
+  pub names : sum_by length c.names ≤ 4096
   pub each_rule : (r : Rule) → Among r c.rules → RuleLimits (length c.names) r
   pub each_name : (name : List ℕ) → Among name c.names → NameLimits name
   pub names_once : Distinct (λ i. slice_index_or c.names i []) (length c.names)

@@ -80,11 +80,13 @@ impl From<Record<'_>> for AggregateView {
     }
 }
 
-// A view of bytes, with what the check says of them. It is opened where they have no fault.
+// A view of bytes, with what the check says of them. It is opened where they have no fault. The bytes stand beside the
+// verdict and not in its Ok, since refused bytes can be asked for too. Contracts name them, so a model, which
+// would hide them, is not for this type; nor may one that is Copy and has a lifetime have it.
 #[derive(Clone, Copy)]
 pub struct Table<'a> {
-    pub(crate) bytes: &'a [u8],
-    pub(crate) checked: Result<Counts, Fault>,
+    bytes: &'a [u8],
+    checked: Result<Counts, Fault>,
     ghost judged: { checked ≡ verdict (faults bytes.now) (counts_of bytes.now) },
 }
 
@@ -111,6 +113,7 @@ const NO_MEMBER: Member = Member {
     weight: 0,
 };
 
+// What a record is read as where the type is another crate's, so that no From stands for it here.
 fn read_literal(literal: Record) -> u16
     ensures { result ≡ byte_at literal.entry.bytes.now literal.entry.at }
 {
