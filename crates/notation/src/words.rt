@@ -13,7 +13,8 @@ pub(crate) fn name<'a>(table: &Table<'a>, statement: u16) -> &'a str
     from_utf8(table.name(statement)).unwrap_or("")
 }
 
-// The kind of an aggregate. The kinds of the house family have words.
+// The kind of an aggregate. It stays a number, since a table names kinds so and each family reads them in its own way; the
+// kinds of the house family have words.
 #[derive(Clone, Copy)]
 pub(crate) struct Kind(pub(crate) u8);
 
