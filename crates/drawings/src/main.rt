@@ -8,7 +8,6 @@ use house::House;
 use marking::Marking;
 use semantics::{Finding, Mark};
 use std::alloc::Global;
-use std::str::from_utf8;
 use table::table::Table;
 
 // Says of each case what is drawn. A case is a line: a name, the family, findings, as `+0` where statement 0 was found
@@ -57,7 +56,7 @@ fn names(heap: Global, table: &Table, marking: &Marking, mark: Mark) -> anyhow::
     let mut names = String::new(heap);
     for statement in 0..marking.statements() {
         if marking.mark(statement) == mark {
-            let name = from_utf8(table.name(statement))?;
+            let name = table.name(statement);
             write!(names, " {name}")?;
         }
     }

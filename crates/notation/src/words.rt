@@ -1,17 +1,7 @@
-ghost use Rattle.notation.specs.Text.{kind_text, name_text};
-ghost use Rattle.std.specs.Prelude.{◌≡◌, Some};
-ghost use Rattle.table.specs.Tables.{contents_of};
+ghost use Rattle.notation.specs.Text.{kind_text};
+ghost use Rattle.std.specs.Prelude.{Some};
 
 use std::fmt;
-use std::str::from_utf8;
-use table::table::Table;
-
-// The name of a statement; past the last one, no text. What the check accepts has names of visible ASCII signs only.
-pub(crate) fn name<'a>(table: &Table<'a>, statement: u16) -> &'a str
-    ensures { result.now ≡ name_text (contents_of table.now).names statement }
-{
-    from_utf8(table.name(statement)).unwrap_or("")
-}
 
 // The kind of an aggregate. It stays a number, since a table names kinds so and each family reads them in its own way; the
 // kinds of the house family have words.
