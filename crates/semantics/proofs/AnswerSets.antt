@@ -5,7 +5,8 @@ use Rattle.std.proofs.lemmas.Bool.{both_ways, not-true, not-false, cases_lt, cas
 use Rattle.semantics.specs.declared.Member.{Member}
 use Rattle.semantics.specs.AnswerSets.{weights, passes, true_in, counts, members_met, needs_met, obeys_rule, obeys, AnswerSet, Supports}
 use Rattle.semantics.specs.Families.{Values}
-use Rattle.semantics.specs.Lists.{Among, all, any}
+use Rattle.semantics.specs.Lists.{Among}
+use Rattle.std.specs.List.{list_all, list_any}
 use Rattle.semantics.specs.Programs.{Aggregate, Rule, Program}
 use Rattle.semantics.specs.Rows.{has, Part, ProperPart}
 use Rattle.semantics.specs.Theorems.{Supported, Antichain}
@@ -16,18 +17,18 @@ implies_itself true = refl
 implies_itself false = refl
 
 -- a rule that t obeys against s, that counts against s and whose needs t meets, has a head statement in t
-pub head_of_obeyed : (value : Values) (s t : List Bool) (r : Rule) → obeys_rule value s t r ≡ true → counts value s r ≡ true → needs_met s t r ≡ true → any (has t) r.head ≡ true
+pub head_of_obeyed : (value : Values) (s t : List Bool) (r : Rule) → obeys_rule value s t r ≡ true → counts value s r ≡ true → needs_met s t r ≡ true → list_any (has t) r.head ≡ true
 head_of_obeyed value s t r k c m =
     let bound = counts value s r && needs_met s t r in
     ⊎_elim
     (λ e. absurd (both_ways bound (not-true bound e) (and_from (counts value s r) (needs_met s t r) c m)))
     (λ e. e)
-    (or_cases (not bound) (any (has t) r.head) k)
+    (or_cases (not bound) (list_any (has t) r.head) k)
 
 -- the members of s ask nothing more of s
-pub needs_of_itself : (s : List Bool) (r : Rule) → all (has s) r.positive ≡ true → needs_met s s r ≡ true
+pub needs_of_itself : (s : List Bool) (r : Rule) → list_all (has s) r.positive ≡ true → needs_met s s r ≡ true
 needs_of_itself s r h =
-    and_from (all (has s) r.positive) _ h
+    and_from (list_all (has s) r.positive) _ h
     (all_from _ r.aggregates (λ g i. all_from _ g.members (λ m j. implies_itself (has s m.statement))))
 
 -- Take q out of the answer set: what is left does not obey, and the rule that shows it supports q.
@@ -57,10 +58,10 @@ module _ (value : Values) (p : Program) (s : List Bool) (q : ℕ) (a : AnswerSet
 
   supports : (r : Rule) → Among r p.rules → obeys_rule value s rest r ≡ false → Supports value s q r
   supports r i k =
-      let parts = or_parts (not (counts value s r && needs_met s rest r)) (any (has rest) r.head) k in
+      let parts = or_parts (not (counts value s r && needs_met s rest r)) (list_any (has rest) r.head) k in
       let both = and_parts (counts value s r) (needs_met s rest r) (not-false (counts value s r && needs_met s rest r) parts.0) in
-      let left = (and_parts (all (has rest) r.positive) _ both.1).0 in
-      let positives : all (has s) r.positive ≡ true = all_from (has s) r.positive (λ o j. rest_part.part o (all_at (has rest) r.positive o left j)) in
+      let left = (and_parts (list_all (has rest) r.positive) _ both.1).0 in
+      let positives : list_all (has s) r.positive ≡ true = all_from (has s) r.positive (λ o j. rest_part.part o (all_at (has rest) r.positive o left j)) in
       let some = any_one (has s) r.head (head_of_obeyed value s s r (all_at (obeys_rule value s s) p.rules r a.obeyed i) both.0 (needs_of_itself s r positives)) in
       let alone : (o : ℕ) → Among o r.head → has s o ≡ true → o ≡ q = λ o j t.
       ⊎_elim (λ e. e) (λ n. absurd (both_ways (has rest o) (any_none (has rest) r.head o parts.1 j) (get_or-set_other s q o false false n ∙ t))) (cases_eq o q)
@@ -99,9 +100,9 @@ module _ (value : Values) (a b : List Bool) (part : Part a b) where
 
   counts_below : (r : Rule) → counts value b r ≡ true → needs_met b a r ≡ true → counts value a r ≡ true
   counts_below r c m =
-      let cs = and_parts (all (λ q. not (has b q)) r.negative) (all (true_in value b) r.aggregates) c in
-      let ms = and_parts (all (has a) r.positive) (all (members_met b a) r.aggregates) m in
-      and_from (all (λ q. not (has a q)) r.negative) (all (true_in value a) r.aggregates)
+      let cs = and_parts (list_all (λ q. not (has b q)) r.negative) (list_all (true_in value b) r.aggregates) c in
+      let ms = and_parts (list_all (has a) r.positive) (list_all (members_met b a) r.aggregates) m in
+      and_from (list_all (λ q. not (has a q)) r.negative) (list_all (true_in value a) r.aggregates)
       (all_from _ r.negative (λ q i. not_from_false (has a q) (absent q (not-true (has b q) (all_at (λ q. not (has b q)) r.negative q cs.0 i)))))
       (all_from _ r.aggregates (λ g i.
       true_by_members value g a b (λ m j. same_member m (all_at _ g.members m (all_at (members_met b a) r.aggregates g ms.1 i) j))
@@ -111,10 +112,10 @@ module _ (value : Values) (a b : List Bool) (part : Part a b) where
   obeys_below rules h = all_from (obeys_rule value b a) rules (λ r i.
       let bound = counts value b r && needs_met b a r in
       ⊎_elim
-      (λ t. or_right (not bound) (any (has a) r.head)
+      (λ t. or_right (not bound) (list_any (has a) r.head)
       (let both = and_parts (counts value b r) (needs_met b a r) t in
-      head_of_obeyed value a a r (all_at (obeys_rule value a a) rules r h i) (counts_below r both.0 both.1) (needs_of_itself a r (and_parts (all (has a) r.positive) _ both.1).0)))
-      (λ f. or_left (not bound) (any (has a) r.head) (not_from_false bound f))
+      head_of_obeyed value a a r (all_at (obeys_rule value a a) rules r h i) (counts_below r both.0 both.1) (needs_of_itself a r (and_parts (list_all (has a) r.positive) _ both.1).0)))
+      (λ f. or_left (not bound) (list_any (has a) r.head) (not_from_false bound f))
       (cases_Bool bound))
 
 pub antichain : (a b : List Bool) → Antichain a b

@@ -1,17 +1,16 @@
 -- Accounts by trial of every row: a test that decides what an account is, and what it tells of all accounts.
 use Rattle.std.proofs.Common.{◌≡◌, ℕ, zero, suc, Bool, true, false, not, ◌&&◌, ◌||◌, ◌⊎◌, List, [], ◌∷◌, length, Decides, sym, refl, ap, ◌∙◌, subst, inl, inr, ⊎_elim, arith}
-use mathlib.Core.Bool.{beq}
 use Rattle.std.proofs.lemmas.List.{get_or_past, ext_get_or}
 use Rattle.std.proofs.lemmas.Bool.{and_parts, and_from, both_ways, cases_lt, false≢true}
 use Rattle.std.proofs.lemmas.Bool.Decides.{same_from_decides, Decides-like, Decides-not, Decides-and, Decides-below_and}
 use Rattle.semantics.specs.declared.Finding.{Finding}
-use Rattle.semantics.specs.AnswerSets.{obeys, AnswerSet, AgreesWith, Account, Earliest, NoAccount}
+use Rattle.semantics.specs.AnswerSets.{obeys, AnswerSet, Account, Earliest, NoAccount}
 use Rattle.semantics.specs.Families.{Values}
-use Rattle.semantics.specs.Lists.{all}
+use Rattle.std.specs.List.{list_all}
 use Rattle.semantics.specs.Programs.{Program}
 use Rattle.semantics.specs.Rows.{has, Part, ProperPart, Precedes}
 use Rattle.semantics.specs.SmallTables.{Sole, InEvery}
-use Rattle.semantics.proofs.Lists.{all_at, all_from}
+use Rattle.semantics.proofs.Decisions.{all_decides, confirmed, confirmed_decides}
 use Rattle.semantics.proofs.Order.{at_once, later}
 
 -- Tests of truth values.
@@ -21,12 +20,6 @@ decides_itself x = (λ e. e, λ e. e)
 decides_implies : (x y : Bool) → Decides (not x || y) (x ≡ true → y ≡ true)
 decides_implies true y = (λ e _. e, λ h. h refl)
 decides_implies false y = (λ _ e. absurd (false≢true e), λ _. refl)
-
-decides_same : (x y : Bool) → Decides (beq x y) (x ≡ y)
-decides_same true true = (λ _. refl, λ _. refl)
-decides_same true false = (λ e. sym e, λ e. sym e)
-decides_same false true = (λ e. e, λ e. e)
-decides_same false false = (λ _. refl, λ _. refl)
 
 -- Parts of rows.
 abbrev every_below : (ℕ → Bool) → ℕ → Bool
@@ -116,17 +109,8 @@ module _ (value : Values) (p : Program) where
       (λ a. (a.obeyed, λ t k. (decides_no_rival s t (k ∙ sym l)).1 (λ h. a.minimal t h.0 h.1)))
       (Decides-and _ _ (decides_itself _) (row_passes p.statements _, rows_pass p.statements _))
 
-abbrev fits_finding : List Bool → Finding → Bool
-fits_finding s f = beq (has s f.statement) f.present
-
-decides_fits : (findings : List Finding) (s : List Bool) → Decides (all (fits_finding s) findings) (AgreesWith findings s)
-decides_fits findings s = (
-  λ h f i. (decides_same _ _).0 (all_at (fits_finding s) findings f h i),
-  λ h. all_from (fits_finding s) findings (λ f i. (decides_same _ _).1 (h f i)),
-)
-
 abbrev pub is_account : Values → Program → List Finding → List Bool → Bool
-is_account value p findings s = is_answer value p s && all (fits_finding s) findings
+is_account value p findings s = is_answer value p s && list_all (confirmed s) findings
 
 -- the test holds of every account
 abbrev pub every_account : Values → Program → List Finding → (List Bool → Bool) → Bool
@@ -138,7 +122,7 @@ module _ {value : Values} {p : Program} {findings : List Finding} where
       Decides-like (is_account value p findings s)
       (λ h. record { answer = h.0; fits = h.1 })
       (λ a. (a.answer, a.fits))
-      (Decides-and _ _ (decides_answer value p s l) (decides_fits findings s))
+      (Decides-and _ _ (decides_answer value p s l) (all_decides _ _ (confirmed_decides s) findings))
 
   account_passes : (f : List Bool → Bool) → every_account value p findings f ≡ true → (s : List Bool) → Account value p findings s → f s ≡ true
   account_passes f h s a =

@@ -1,32 +1,33 @@
 -- Quantifiers over lists, and what stands at a place.
 use Rattle.std.proofs.Common.{◌≡◌, ℕ, zero, suc, ◌<◌, Bool, true, false, ◌⊎◌, List, [], ◌∷◌, ◌++◌, length, get_or, sym, refl, ap, ◌∙◌, inl, inr, ⊎_elim, arith}
 use Rattle.std.proofs.lemmas.Bool.{and_parts, and_from, and_cases, or_cases, or_parts, true≢false, false≢true}
-use Rattle.semantics.specs.Lists.{Among, Nth, all, any}
+use Rattle.semantics.specs.Lists.{Among, Nth}
+use Rattle.std.specs.List.{list_all, list_any}
 
 module _ {X : Type 0} (f : X → Bool) where
-  pub all_at : (xs : List X) (x : X) → all f xs ≡ true → Among x xs → f x ≡ true
+  pub all_at : (xs : List X) (x : X) → list_all f xs ≡ true → Among x xs → f x ≡ true
   all_at [] x h m = absurd m
-  all_at (y ∷ ys) x h (inl e) = ap f (sym e) ∙ (and_parts (f y) (all f ys) h).0
-  all_at (y ∷ ys) x h (inr m) = all_at ys x (and_parts (f y) (all f ys) h).1 m
+  all_at (y ∷ ys) x h (inl e) = ap f (sym e) ∙ (and_parts (f y) (list_all f ys) h).0
+  all_at (y ∷ ys) x h (inr m) = all_at ys x (and_parts (f y) (list_all f ys) h).1 m
 
-  pub all_from : (xs : List X) → ((x : X) → Among x xs → f x ≡ true) → all f xs ≡ true
+  pub all_from : (xs : List X) → ((x : X) → Among x xs → f x ≡ true) → list_all f xs ≡ true
   all_from [] h = refl
-  all_from (y ∷ ys) h = and_from (f y) (all f ys) (h y (inl refl)) (all_from ys (λ x m. h x (inr m)))
+  all_from (y ∷ ys) h = and_from (f y) (list_all f ys) (h y (inl refl)) (all_from ys (λ x m. h x (inr m)))
 
-  pub all_fails : (xs : List X) → all f xs ≡ false → (x : X) × Among x xs × (f x ≡ false)
+  pub all_fails : (xs : List X) → list_all f xs ≡ false → (x : X) × Among x xs × (f x ≡ false)
   all_fails [] h = absurd (true≢false h)
   all_fails (y ∷ ys) h =
-      ⊎_elim (λ e. (y, inl refl, e)) (λ e. let r = all_fails ys e in (r.0, inr r.1, r.2)) (and_cases (f y) (all f ys) h)
+      ⊎_elim (λ e. (y, inl refl, e)) (λ e. let r = all_fails ys e in (r.0, inr r.1, r.2)) (and_cases (f y) (list_all f ys) h)
 
-  pub any_one : (xs : List X) → any f xs ≡ true → (x : X) × Among x xs × (f x ≡ true)
+  pub any_one : (xs : List X) → list_any f xs ≡ true → (x : X) × Among x xs × (f x ≡ true)
   any_one [] h = absurd (false≢true h)
   any_one (y ∷ ys) h =
-      ⊎_elim (λ e. (y, inl refl, e)) (λ e. let r = any_one ys e in (r.0, inr r.1, r.2)) (or_cases (f y) (any f ys) h)
+      ⊎_elim (λ e. (y, inl refl, e)) (λ e. let r = any_one ys e in (r.0, inr r.1, r.2)) (or_cases (f y) (list_any f ys) h)
 
-  pub any_none : (xs : List X) (x : X) → any f xs ≡ false → Among x xs → f x ≡ false
+  pub any_none : (xs : List X) (x : X) → list_any f xs ≡ false → Among x xs → f x ≡ false
   any_none [] x h m = absurd m
-  any_none (y ∷ ys) x h (inl e) = ap f (sym e) ∙ (or_parts (f y) (any f ys) h).0
-  any_none (y ∷ ys) x h (inr m) = any_none ys x (or_parts (f y) (any f ys) h).1 m
+  any_none (y ∷ ys) x h (inl e) = ap f (sym e) ∙ (or_parts (f y) (list_any f ys) h).0
+  any_none (y ∷ ys) x h (inr m) = any_none ys x (or_parts (f y) (list_any f ys) h).1 m
 
 module _ {X : Type 0} where
   pub among_nth : (xs : List X) (x : X) → Among x xs → (i : ℕ) × Nth xs i x

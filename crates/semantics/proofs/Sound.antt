@@ -6,7 +6,8 @@ use Rattle.semantics.specs.declared.Mark.{Mark}
 use Rattle.semantics.specs.declared.Mark.TheVariants.{In}
 use Rattle.semantics.specs.AnswerSets.{weights, passes, true_in, obeys_rule, AnswerSet, Supports}
 use Rattle.semantics.specs.Families.{Values}
-use Rattle.semantics.specs.Lists.{Among, Nth, all}
+use Rattle.semantics.specs.Lists.{Among, Nth}
+use Rattle.std.specs.List.{list_all}
 use Rattle.semantics.specs.Markings.{at, Agrees, Attained, Between, Certain, Impossible, literals, BodyCertain, Refuted, HeadOut, Broken, OneLeft, Forces, fires, explains, chooses, blocks, unsupported}
 use Rattle.semantics.specs.Programs.{Aggregate, Rule, Program}
 use Rattle.semantics.specs.Rows.{has}
@@ -23,7 +24,7 @@ record Holds (value : Values) (s : List Bool) (r : Rule) : Type 0 where
 support_holds : (value : Values) (s : List Bool) (p : ℕ) (r : Rule) → Supports value s p r → Holds value s r
 support_holds value s p r u = record { literal = each; aggregate = λ g. all_at (true_in value s) r.aggregates g cs.1 }
   where
-    cs : (all (λ p. not (has s p)) r.negative ≡ true) × (all (true_in value s) r.aggregates ≡ true)
+    cs : (list_all (λ p. not (has s p)) r.negative ≡ true) × (list_all (true_in value s) r.aggregates ≡ true)
     cs = and_parts _ _ u.body.counted
 
     each : (q : ℕ) (x : Bool) → Among q (literals r x) → has s q ≡ x

@@ -4,7 +4,8 @@ use Rattle.semantics.specs.declared.Finding.{Finding}
 use Rattle.semantics.specs.declared.Member.{Member}
 use Rattle.semantics.specs.declared.Relation.{Relation}
 use Rattle.semantics.specs.Families.{Values}
-use Rattle.semantics.specs.Lists.{Among, all, any}
+use Rattle.semantics.specs.Lists.{Among}
+use Rattle.std.specs.List.{list_all, list_any}
 use Rattle.semantics.specs.Programs.{Aggregate, Rule, Program, stands}
 use Rattle.semantics.specs.Rows.{has, ProperPart, Precedes}
 
@@ -24,22 +25,22 @@ true_in value s g = passes g.relation g.bound (value g.kind (weights (has s) g.m
 
 -- the rule counts against s: no negative statement is in s, and every aggregate is true in s
 abbrev pub counts : Values → List Bool → Rule → Bool
-counts value s r = all (λ q. not (has s q)) r.negative && all (true_in value s) r.aggregates
+counts value s r = list_all (λ q. not (has s q)) r.negative && list_all (true_in value s) r.aggregates
 
 -- the members that are in s are in t
 abbrev pub members_met : List Bool → List Bool → Aggregate → Bool
-members_met s t g = all (λ m. not (has s m.statement) || has t m.statement) g.members
+members_met s t g = list_all (λ m. not (has s m.statement) || has t m.statement) g.members
 
 -- what the rule needs is in t: its positive statements, and the members of its aggregates that are in s
 abbrev pub needs_met : List Bool → List Bool → Rule → Bool
-needs_met s t r = all (has t) r.positive && all (members_met s t) r.aggregates
+needs_met s t r = list_all (has t) r.positive && list_all (members_met s t) r.aggregates
 
 abbrev pub obeys_rule : Values → List Bool → List Bool → Rule → Bool
-obeys_rule value s t r = not (counts value s r && needs_met s t r) || any (has t) r.head
+obeys_rule value s t r = not (counts value s r && needs_met s t r) || list_any (has t) r.head
 
 -- t obeys against s: every rule that counts against s, and whose needs t meets, has a head statement in t
 abbrev pub obeys : Values → List Bool → List Bool → List Rule → Bool
-obeys value s t rules = all (obeys_rule value s t) rules
+obeys value s t rules = list_all (obeys_rule value s t) rules
 
 -- s obeys against itself, and no proper part of s obeys against s
 pub record AnswerSet (value : Values) (p : Program) (s : List Bool) : Type 0 where
@@ -50,7 +51,7 @@ pub record AnswerSet (value : Values) (p : Program) (s : List Bool) : Type 0 whe
 -- the body of the rule is true in s
 pub record BodyTrue (value : Values) (s : List Bool) (r : Rule) : Type 0 where
   pub counted : counts value s r ≡ true
-  pub positives : all (has s) r.positive ≡ true
+  pub positives : list_all (has s) r.positive ≡ true
 
 -- the rule supports its head statement q: its body is true in s, and no other head statement is in s
 pub record Supports (value : Values) (s : List Bool) (q : ℕ) (r : Rule) : Type 0 where

@@ -10,11 +10,7 @@ use super::rows::has;
 fn allows(mark: Mark, present: bool) -> bool
     ensures { result ≡ elim mark [ Open ↦ true | In ↦ present | Out ↦ not present ] }
 {
-    match mark {
-        Mark::Open => true,
-        Mark::In => present,
-        Mark::Out => !present,
-    }
+    mark != Mark::from(!present)
 }
 
 // Whether a row has what is marked in, and lacks what is marked out. An answer set that does goes on to do so after
@@ -23,34 +19,24 @@ pub fn agrees(marks: &[Mark], row: &[bool]) -> bool
     ensures decided { Decides result (Agrees marks.now row.now) }
     ensures sound { result ≡ true → StepsSound marks.now row.now }
 {
-    for (q, mark) in marks.iter().enumerate() {
-        if !allows(*mark, has(row, q)) {
-            return false;
-        }
-    }
-    true
+    marks
+        .iter()
+        .enumerate()
+        .all(|(q, mark)| allows(*mark, has(row, q)))
 }
 
 // The mark of a statement; past the end every statement is open.
 pub fn mark_at(marks: &[Mark], statement: usize) -> Mark
     ensures { result ≡ at marks.now statement }
 {
-    if statement < marks.len() {
-        marks[statement]
-    } else {
-        Mark::Open
-    }
+    marks.get(statement).copied().unwrap_or(Mark::Open)
 }
 
 // Whether a mark is kept by another: an open one by any, the others by themselves.
 fn is_kept(mark: Mark, by: Mark) -> bool
     ensures { result ≡ elim mark [ Open ↦ true | In ↦ elim by [ Open ↦ false | In ↦ true | Out ↦ false ] | Out ↦ elim by [ Open ↦ false | In ↦ false | Out ↦ true ] ] }
 {
-    match mark {
-        Mark::Open => true,
-        Mark::In => matches!(by, Mark::In),
-        Mark::Out => matches!(by, Mark::Out),
-    }
+    mark == Mark::Open || mark == by
 }
 
 // Whether a marking has every mark of another, and perhaps more. What steps reach from a start lies below the settled
@@ -60,10 +46,8 @@ pub fn is_below(marks: &[Mark], more: &[Mark]) -> bool
     ensures leads { Leads marks.now more.now }
     ensures once { DrawnOnce marks.now more.now }
 {
-    for (q, mark) in marks.iter().enumerate() {
-        if !is_kept(*mark, mark_at(more, q)) {
-            return false;
-        }
-    }
-    true
+    marks
+        .iter()
+        .enumerate()
+        .all(|(q, mark)| is_kept(*mark, mark_at(more, q)))
 }

@@ -1,28 +1,17 @@
 ghost use Rattle.semantics.specs.AnswerSets.{AgreesWith};
 ghost use Rattle.semantics.specs.Rows.{Precedes, ProperPart, has};
 ghost use Rattle.semantics.specs.Theorems.{Antichain, NotedAgrees, Order, Supported};
-ghost use Rattle.std.specs.Prelude.{◌≡◌, true, false, Decides, ◌≢◌};
+ghost use Rattle.std.specs.Prelude.{◌≡◌, ◌≢◌, true, false, not, cond, ◌||◌, Decides};
 
 use super::Finding;
 
 // Sets of statements as rows of marks: place q is true where statement q is in the set.
 
-// The mark at a place; past the end, false.
+// The mark at a place; past the end, false. Stays apart from `has`, whose second promise would hide a wrong value.
 fn place(row: &[bool], statement: usize) -> bool
     ensures { result ≡ has row.now statement }
 {
-    if statement < row.len() {
-        row[statement]
-    } else {
-        false
-    }
-}
-
-// Whether two marks differ.
-fn differ(x: bool, y: bool) -> bool
-    ensures { (result ≡ true → x ≢ y) × (result ≡ false → x ≡ y) }
-{
-    x != y
+    row.get(statement).copied().unwrap_or(false)
 }
 
 // Whether a row has a statement; past its end it has none. A statement of an answer set has a supporting rule.
@@ -33,17 +22,32 @@ pub fn has(row: &[bool], statement: usize) -> bool
     place(row, statement)
 }
 
+// Whether two marks differ. Stays a function with a promise of its own, so that a wrong comparison is refused here, and
+// not in the proof of the loop.
+fn differ(x: bool, y: bool) -> bool
+    ensures { (result ≡ true → x ≢ y) × (result ≡ false → x ≡ y) }
+{
+    x != y
+}
+
 // Whether a row comes before another: at the first difference it has the statement. The order is strict and total.
 pub fn precedes(row: &[bool], other: &[bool]) -> bool
     ensures decided { Decides result (Precedes row.now other.now) }
     ensures order { Order }
 {
     for (q, x) in row.iter().enumerate() {
-        if differ(*x, place(other, q)) {
+        if differ(*x, has(other, q)) {
             return *x;
         }
     }
     false
+}
+
+// Whether the whole has a statement if the part has it.
+fn covers(whole: bool, part: bool) -> bool
+    ensures { result ≡ (not part || whole) }
+{
+    !part || whole
 }
 
 // Whether a set is a proper part of another. No answer set of a program is a proper part of another one.
@@ -51,24 +55,16 @@ pub fn is_proper_part(part: &[bool], whole: &[bool]) -> bool
     ensures decided { Decides result (ProperPart part.now whole.now) }
     ensures antichain { Antichain part.now whole.now }
 {
-    if part.len() != whole.len() {
-        return false;
-    }
-    let mut smaller = false;
-    for (q, x) in part.iter().enumerate() {
-        if *x && !whole[q] {
-            return false;
-        }
-        smaller = smaller || *x != whole[q];
-    }
-    smaller
+    part.len() == whole.len()
+        && part != whole
+        && part.iter().zip(whole).all(|(x, y)| covers(*y, *x))
 }
 
-// Whether a row has what was found absent, or lacks what was found present.
-fn contradicts(finding: Finding, row: &[bool]) -> bool
-    ensures { (result ≡ true → has row.now finding.statement ≢ finding.present) × (result ≡ false → has row.now finding.statement ≡ finding.present) }
+// Whether a row has a statement that was found present, or lacks one that was found absent.
+fn confirms(row: &[bool], finding: Finding) -> bool
+    ensures { result ≡ cond finding.present (has row.now finding.statement) (not (has row.now finding.statement)) }
 {
-    differ(place(row, finding.statement as usize), finding.present)
+    has(row, usize::from(finding.statement)) == finding.present
 }
 
 // Whether a row agrees with findings: it has what was found present, and lacks what was found absent.
@@ -76,10 +72,5 @@ pub fn agrees_with(findings: &[Finding], row: &[bool]) -> bool
     ensures decided { Decides result (AgreesWith findings.now row.now) }
     ensures noted { NotedAgrees }
 {
-    for finding in findings {
-        if contradicts(*finding, row) {
-            return false;
-        }
-    }
-    true
+    findings.iter().all(|finding| confirms(row, *finding))
 }

@@ -1,19 +1,17 @@
-use Rattle.semantics.proofs.Decisions.{below_throughout, kept_decides, refuted_by, shown_by}
+use Rattle.semantics.proofs.Decisions.{below_decided, kept}
 use Rattle.semantics.proofs.Drawing.{drawn_once, leads}
 use Rattle.semantics.proofs.markings.is_below.Goals as goal
-use Rattle.std.proofs.lemmas.Bool.{false≢true}
-use Rattle.std.proofs.Common.{◌∙◌}
-
-pub returns-then-not-is_kept : goal.returns-then-not-is_kept
-returns-then-not-is_kept c = record {
-  decided = refuted_by _ (λ b. false≢true ((kept_decides _ _ _ c.if-not-is_kept.ensures).1 (λ x e. c.mark_at.ensures ∙ b c.loop-q.q x e)));
-  leads = leads _ _;
-  once = drawn_once _ _;
-}
+use Rattle.semantics.specs.Markings.{Below}
+use Rattle.std.proofs.Common.{rules, sym, subst, Decides}
+use Rattle.std.proofs.lemmas.Iterator.{YieldsList-from_slice}
+use Rattle.std.proofs.lemmas.Iterator.Consumers.{YieldsList-from_enumerate}
+use Rattle.std.proofs.lemmas.Iterator.Search.{all_from_yields_List}
 
 pub returns : goal.returns
-returns c = record {
-  decided = shown_by _ (below_throughout _ _ _ c.loop-q-test.false c.loop-q.invariant);
-  leads = leads _ _;
-  once = drawn_once _ _;
-}
+returns c =
+    let e = all_from_yields_List (kept c.args.more.now) _ _ _ c.all.ensures.ran (YieldsList-from_enumerate {s = c.enumerate.result} (YieldsList-from_slice c.args.marks.now (search rules)) (search rules)) (λ x b q k. search rules) in
+    record {
+      decided = subst (λ b. Decides b (Below c.args.marks.now c.args.more.now)) (sym e) (below_decided c.args.marks.now c.args.more.now);
+      leads = leads _ _;
+      once = drawn_once _ _;
+    }

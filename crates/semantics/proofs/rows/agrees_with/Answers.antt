@@ -1,21 +1,15 @@
-use Rattle.semantics.proofs.Decisions.{refuted_by, shown_by, throughout}
+use Rattle.semantics.proofs.Decisions.{all_decides, confirmed, confirmed_decides}
 use Rattle.semantics.proofs.Findings.{noted_agrees}
-use Rattle.semantics.proofs.Lists.{among_at}
-use Rattle.semantics.proofs.rows.agrees_with.Invariants.{none}
 use Rattle.semantics.proofs.rows.agrees_with.Goals as goal
-use Rattle.std.proofs.Common.{refl, below_more}
+use Rattle.semantics.specs.AnswerSets.{AgreesWith}
+use Rattle.std.proofs.Common.{rules, subst, sym, Decides}
+use Rattle.std.proofs.lemmas.Iterator.{YieldsList-from_slice}
+use Rattle.std.proofs.lemmas.Iterator.Search.{all_from_yields_List}
 
-pub returns-then-contradicts : goal.returns-then-contradicts
-returns-then-contradicts c = record {
-  decided = refuted_by _ (λ ag. c.if-contradicts.ensures.0 refl (ag _ (among_at c.args.findings.now c.loop-finding.finding-index none c.loop-finding-test.true)));
-  noted = noted_agrees;
-}
+pub returns-clause-decided : goal.returns-clause-decided
+returns-clause-decided c =
+    let e = all_from_yields_List (confirmed c.args.row.now) _ _ _ c.all.ensures.ran (YieldsList-from_slice c.args.findings.now (search rules)) (λ x b q k. search rules) in
+    subst (λ b. Decides b (AgreesWith c.args.findings.now c.args.row.now)) (sym e) (all_decides _ _ (confirmed_decides c.args.row.now) c.args.findings.now)
 
-pub loop-finding-preserved : goal.loop-finding-preserved
-loop-finding-preserved c = below_more _ _ c.loop-finding.invariant (c.if-contradicts.ensures.1 refl)
-
-pub returns : goal.returns
-returns c = record {
-  decided = shown_by _ (throughout c.args.findings.now _ c.loop-finding.finding-index none c.loop-finding-test.false c.loop-finding.invariant);
-  noted = noted_agrees;
-}
+pub returns-clause-noted : goal.returns-clause-noted
+returns-clause-noted c = noted_agrees

@@ -5,7 +5,7 @@ use Rattle.std.proofs.Common.{sym, refl, ◌∙◌}
 
 pub returns-then-differ : goal.returns-then-differ
 returns-then-differ c = record {
-  decided = first_difference c.args.row.now c.args.other.now c.loop-q.q c.loop-q.invariant (λ e. c.if-differ.ensures.0 refl (e ∙ sym c.place.ensures));
+  decided = first_difference c.args.row.now c.args.other.now c.loop-q.q c.loop-q.invariant (λ e. c.if-differ.ensures.0 refl (e ∙ sym c.has.ensures.value));
   order = order;
 }
 
