@@ -6,7 +6,8 @@ ghost use Rattle.semantics.specs.Families.{Weight};
 use super::reading::Span;
 use super::weights::widened;
 
-// What is kept of a bag of weights. Each family reads from it what its kinds need.
+// What is kept of a bag of weights. Each family reads from it what its kinds need; one that needs no sums pays two
+// additions a weight for them.
 #[derive(Clone, Copy)]
 pub struct Bag {
     // how many there are

@@ -1,9 +1,6 @@
-use Rattle.std.proofs.Common.{arith}
+use Rattle.std.proofs.Common.{arith, rules}
 use Rattle.std.proofs.lemmas.Int.{clamps, ints, to_z-of_z}
 use Rattle.family.proofs.bag.Bag.put.Goals as goal
-
-pub invariant_of-self-clause-few : goal.invariant_of-self-clause-few
-invariant_of-self-clause-few c = omega arith
 
 pub invariant_of-self-clause-bounded : goal.invariant_of-self-clause-bounded
 invariant_of-self-clause-bounded c = ((omega (arith, ints, clamps), omega (arith, ints, clamps)), (omega (arith, ints, clamps), omega (arith, ints, clamps)))
@@ -14,11 +11,9 @@ invariant_of-self-clause-small c =
     (simp to_z-of_z at c.widened-self.ensures.small) c.args.self.now.small c.requires.small
 
 pub returns : goal.returns
-returns c = λ v h.
-    let f = c.ranges.weight in
-    record {
-      count = omega (arith, h.count);
-      below = omega (arith, ints, clamps, h.below);
-      above = omega (arith, ints, clamps, h.above);
-      extremes = (simp to_z-of_z at c.widened-self.ensures.spans) v h.extremes;
-    }
+returns c = λ v h. record {
+  count = search rules;
+  below = omega (arith, ints, clamps, h.below);
+  above = omega (arith, ints, clamps, h.above);
+  extremes = search (rules, c.widened-self.ensures.spans);
+}
