@@ -21,14 +21,8 @@ impl Support {
     {
         match self {
             Support::Unsupported => Support::OneRule(rule),
-            Support::OneRule(other) => {
-                if other == rule {
-                    Support::OneRule(other)
-                } else {
-                    Support::ManyRules
-                }
-            }
-            Support::ManyRules => Support::ManyRules,
+            Support::OneRule(other) if other == rule => self,
+            Support::OneRule(_) | Support::ManyRules => Support::ManyRules,
         }
     }
 }

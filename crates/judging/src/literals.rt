@@ -35,14 +35,8 @@ impl Literals {
     {
         match self {
             Literals::Met => Literals::OneOpen(literal),
-            Literals::OneOpen(other) => {
-                if other == literal {
-                    self
-                } else {
-                    Literals::SeveralOpen
-                }
-            }
-            Literals::SeveralOpen => Literals::SeveralOpen,
+            Literals::OneOpen(other) if other == literal => self,
+            Literals::OneOpen(_) | Literals::SeveralOpen => Literals::SeveralOpen,
             Literals::Against => Literals::Against,
         }
     }
