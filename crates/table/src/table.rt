@@ -73,6 +73,7 @@ impl From<Record<'_>> for AggregateView {
     fn from(record: Record) -> AggregateView {
         AggregateView {
             kind: record.byte(0),
+            // The check accepts no code that is not a relation's.
             relation: Relation::try_from(record.byte(1)).unwrap_or(Relation::More),
             bound: record.whole(8),
             members: Run::new(usize::from(record.word(4)), record.byte(2)),
