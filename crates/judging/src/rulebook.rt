@@ -46,7 +46,7 @@ impl<'a, F: Family> Rulebook<'a, F> {
         let tally = self.filled(marking, aggregate.kind, aggregate.members);
         self.family
             .read(&tally)
-            .judge(aggregate.relation, aggregate.bound as i64)
+            .judge(aggregate.relation, i64::from(aggregate.bound))
     }
 
     // Whether all aggregates of a run are certain, or one is impossible.

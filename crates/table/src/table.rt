@@ -59,7 +59,8 @@ impl From<Record<'_>> for RuleView {
     }
 }
 
-// An aggregate, its set by the places of its members.
+// An aggregate, its set by the places of its members. Its kind stays a number: every family numbers its own kinds, and a
+// table does not know which one will read it.
 #[derive(Clone, Copy)]
 pub struct AggregateView {
     pub kind: u8,
