@@ -1,5 +1,5 @@
 use Rattle.bench.proofs.Readings.{odd_reads}
-use Rattle.bench.proofs.kind.BenchKind.read.Goals as goal
+use Rattle.bench.proofs.reading.BenchKindKind.read.Goals as goal
 
 pub returns-in-Spread : goal.returns-in-Spread
 returns-in-Spread c = simp c.in-Spread.is c.spreads.ensures

@@ -1,8 +1,8 @@
 use Rattle.family.proofs.Readings.{best_open_reads}
 use Rattle.house.proofs.Readings.{count_reads, greatest_reads, least_reads, sum_reads}
 use Rattle.house.proofs.Sums.{total_of_parts}
-use Rattle.house.proofs.kind.HouseKind.read.Goals as goal
-use Rattle.house.proofs.kind.HouseKind.read.Goals.{in_default-None-via-in-Least+in-None, in_default-None-via-in-Greatest+in-None}
+use Rattle.house.proofs.reading.HouseKindKind.read.Goals as goal
+use Rattle.house.proofs.reading.HouseKindKind.read.Goals.{in_default-None-via-in-Least+in-None, in_default-None-via-in-Greatest+in-None}
 use Rattle.semantics.proofs.Families.{greatest_best, least_best}
 use Rattle.std.proofs.Common.{arith, w64, SFits, rules}
 use Rattle.std.proofs.lemmas.Int.{ints, to_z-of_z}
