@@ -21,14 +21,8 @@ impl Support {
     {
         match self {
             Support::Unsupported => Support::OneRule(rule),
-            Support::OneRule(other) => {
-                if other == rule {
-                    Support::OneRule(other)
-                } else {
-                    Support::ManyRules
-                }
-            }
-            Support::ManyRules => Support::ManyRules,
+            Support::OneRule(other) if other == rule => self,
+            Support::OneRule(_) | Support::ManyRules => Support::ManyRules,
         }
     }
 }
@@ -54,7 +48,7 @@ impl Supports {
         ensures { result ≡ supported_by self.now.by statement }
     {
         self.by
-            .get(statement as usize)
+            .get(usize::from(statement))
             .copied()
             .unwrap_or(Support::Unsupported)
     }
@@ -64,7 +58,7 @@ impl Supports {
     fn add_rule(&mut self, statement: u16, rule: usize)
         ensures { self.new.by ≡ slice_set self.old.by statement (with_rule (supported_by self.old.by statement) rule) }
     {
-        let place = statement as usize;
+        let place = usize::from(statement);
         if place < self.by.len() {
             self.by[place] = self.by[place].with(rule);
         }

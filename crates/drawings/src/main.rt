@@ -2,13 +2,13 @@
 
 use anyhow::anyhow;
 use bench::Bench;
+use cases::Word;
 use drawing::draw;
 use family::Family;
 use house::House;
 use marking::Marking;
 use semantics::{Finding, Mark};
 use std::alloc::Global;
-use std::str::from_utf8;
 use table::table::Table;
 
 // Says of each case what is drawn. A case is a line: a name, the family, findings, as `+0` where statement 0 was found
@@ -19,16 +19,6 @@ use table::table::Table;
 struct Case {
     findings: Vec<Finding>,
     bytes: Vec<u8>,
-}
-
-// Adds the bytes of a word. This stays beside its like in `refusals`: a crate of both would be longer than these lines.
-fn push_bytes(bytes: &mut Vec<u8>, word: &str) -> anyhow::Result<()> {
-    let (digits, times) = word.split_once('*').unwrap_or((word, "1"));
-    let part = hex::decode(*bytes.allocator(), digits)?;
-    for _ in 0..times.parse::<u16>()? {
-        bytes.extend_from_slice(&part)?;
-    }
-    Ok(())
 }
 
 fn push_finding(findings: &mut Vec<Finding>, number: &str, present: bool) -> anyhow::Result<()> {
@@ -45,7 +35,7 @@ impl Case {
             match (word.strip_prefix('+'), word.strip_prefix('-')) {
                 (Some(number), _) => push_finding(&mut findings, number, true)?,
                 (_, Some(number)) => push_finding(&mut findings, number, false)?,
-                (None, None) => push_bytes(&mut bytes, word)?,
+                (None, None) => Word::parse(word)?.push_to(&mut bytes)?,
             }
         }
         Ok(Case { findings, bytes })
@@ -57,7 +47,7 @@ fn names(heap: Global, table: &Table, marking: &Marking, mark: Mark) -> anyhow::
     let mut names = String::new(heap);
     for statement in 0..marking.statements() {
         if marking.mark(statement) == mark {
-            let name = from_utf8(table.name(statement))?;
+            let name = table.name(statement);
             write!(names, " {name}")?;
         }
     }

@@ -6,7 +6,8 @@ use super::bag::Bag;
 use super::kind::LackingKind;
 use super::weights::takes;
 
-// What is kept of a bag of sure weights and a bag of open ones, for one kind, or for none that the family has.
+// What is kept of a bag of sure weights and a bag of open ones, for one kind, or for none that the family has. A sure and
+// an open weight are added by two calls, as a family does it: each has a promise with no case in it.
 #[derive(Clone, Copy)]
 pub struct Tally<K> {
     pub kind: Option<K>,

@@ -1,10 +1,10 @@
-ghost use Rattle.std.specs.Prelude.{◌≡◌, ℕ, List, ◌∷◌, ◌++◌};
+ghost use Rattle.std.specs.Prelude.{◌≡◌, ℕ, false, List, ◌∷◌, ◌++◌, slice_index_or};
 ghost use Rattle.judging.specs.Literals.{LiteralsAre, as_literals};
 ghost use Rattle.judging.specs.declared.literals.Literal.{Literal};
 ghost use Rattle.semantics.specs.Markings.{at};
 ghost use Rattle.semantics.specs.declared.Mark.{Mark};
 ghost use Rattle.table.specs.Tables.{contents_of};
-ghost use Rattle.table.specs.View.{Covers};
+ghost use Rattle.table.specs.View.{Covers, no_rule};
 
 use marking::Marking;
 use semantics::Mark;
@@ -35,14 +35,8 @@ impl Literals {
     {
         match self {
             Literals::Met => Literals::OneOpen(literal),
-            Literals::OneOpen(other) => {
-                if other == literal {
-                    self
-                } else {
-                    Literals::SeveralOpen
-                }
-            }
-            Literals::SeveralOpen => Literals::SeveralOpen,
+            Literals::OneOpen(other) if other == literal => self,
+            Literals::OneOpen(_) | Literals::SeveralOpen => Literals::SeveralOpen,
             Literals::Against => Literals::Against,
         }
     }
@@ -77,4 +71,11 @@ pub(crate) fn judge_literals(
         all = all.and(Literal { statement, present }, marking.mark(statement));
     }
     all
+}
+
+// What a marking says of the head of rule i, that its statements be out. It asks no family, and so no rulebook.
+pub fn judge_head(table: &Table, marking: &Marking, i: usize) -> Literals
+    ensures { LiteralsAre marking.now (as_literals false (slice_index_or (contents_of table.now).rules i no_rule).head) result }
+{
+    judge_literals(table, marking, table.rule(i).head, false, Literals::Met)
 }

@@ -11,8 +11,9 @@ use std::marker::Model;
 // The most statements that a marking has, which is the format's limit.
 const MOST: u16 = 128;
 
-// A mark for each statement of a table: a clause sees the list of these marks. The marks past the last statement are
-// open, so that the list gives the fields back.
+// A mark for each statement of a table: a clause sees the list of these marks. Stays an array with its length beside,
+// since nothing on a marking is on the heap and a marking is copied. The marks past the last statement are open, so that
+// the list gives the fields back.
 #[derive(Clone, Copy)]
 pub struct Marking {
     marks: [Mark; 128],
@@ -42,7 +43,7 @@ impl Marking {
         ensures value { result.now ≡ self.now }
         ensures few { length result.now ≤ 128 }
     {
-        &self.marks[..self.statements as usize]
+        &self.marks[..usize::from(self.statements)]
     }
 
     // All statements open; of more than 128 statements, the first 128.
@@ -68,7 +69,7 @@ impl Marking {
     pub fn mark(&self, statement: u16) -> Mark
         ensures { result ≡ at self.now statement }
     {
-        mark_at(self.marks(), statement as usize)
+        mark_at(self.marks(), usize::from(statement))
     }
 
     // How many statements are open.
@@ -86,7 +87,7 @@ impl Marking {
         ensures { self.new ≡ slice_set self.old statement mark }
     {
         if statement < self.statements {
-            self.marks[statement as usize] = mark;
+            self.marks[usize::from(statement)] = mark;
         }
     }
 

@@ -1,4 +1,3 @@
-pub mod Names
 pub mod Written
 pub mod Joining
 pub mod Placed

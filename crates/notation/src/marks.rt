@@ -2,7 +2,6 @@ ghost use Rattle.notation.specs.Marks.{marks_text};
 ghost use Rattle.std.specs.Prelude.{◌≡◌, IfOk, Some, string_bytes};
 ghost use Rattle.table.specs.Tables.{contents_of};
 
-use super::words::name;
 use marking::Marking;
 use std::alloc::{AllocError, Global};
 use std::fmt;
@@ -21,7 +20,7 @@ impl fmt::Display for Marks<'_> {
     fn fmt<W: fmt::Write>(&self, f: &mut fmt::Formatter<W>) -> fmt::Result {
         for statement in 0..self.table.statements() {
             let mark = self.marking.mark(statement);
-            let name = name(&self.table, statement);
+            let name = self.table.name(statement);
             writeln!(f, "{mark} {name}")?;
         }
         Ok(())

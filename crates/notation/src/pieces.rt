@@ -5,7 +5,8 @@ ghost use Rattle.std.specs.Prelude.{◌≡◌, ℕ, List, Some, map};
 use std::fmt;
 use table::table::Run;
 
-// Texts that stand in a row, by their places.
+// Texts that stand in a row, by their places. Stays a trait and is no closure: `Joined` says what it prints by the text of
+// its pieces, which a closure has no name for.
 pub(crate) trait Pieces {
     type Piece: fmt::Display + Drop;
 

@@ -6,7 +6,7 @@ ghost use Rattle.table.specs.Tables.{contents_of};
 ghost use Rattle.table.specs.View.{no_rule};
 
 use super::pieces::{Joined, Pieces, is_empty, sign_between};
-use super::words::{Kind, name};
+use super::words::Kind;
 use std::alloc::{AllocError, Global};
 use std::fmt;
 use table::table::{RuleView, Run, Table};
@@ -43,7 +43,7 @@ impl<'a> Pieces for Literals<'a> {
 
     fn piece(&self, place: usize) -> Literal<'a> {
         Literal {
-            name: name(&self.table, self.table.literal(place)),
+            name: self.table.name(self.table.literal(place)),
             negated: place >= self.negated,
         }
     }
@@ -77,7 +77,7 @@ impl<'a> Pieces for Members<'a> {
     fn piece(&self, place: usize) -> Weighed<'a> {
         let member = self.0.member(place);
         Weighed {
-            name: name(&self.0, member.statement),
+            name: self.0.name(member.statement),
             weight: member.weight,
         }
     }

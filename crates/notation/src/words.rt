@@ -1,21 +1,12 @@
-ghost use Rattle.notation.specs.Text.{kind_text, name_text};
-ghost use Rattle.std.specs.Prelude.{◌≡◌, Some};
-ghost use Rattle.table.specs.Tables.{contents_of};
+ghost use Rattle.notation.specs.Text.{kind_text};
+ghost use Rattle.std.specs.Prelude.{Some};
 
 use family::LackingKind;
 use house::HouseKind;
 use std::fmt;
-use std::str::from_utf8;
-use table::table::Table;
 
-// The name of a statement; past the last one, no text. What the check accepts has names of visible ASCII signs only.
-pub(crate) fn name<'a>(table: &Table<'a>, statement: u16) -> &'a str
-    ensures { result.now ≡ name_text (contents_of table.now).names statement }
-{
-    from_utf8(table.name(statement)).unwrap_or("")
-}
-
-// The kind of an aggregate. The kinds of the house family have words.
+// The kind of an aggregate. It stays a number, since a table names kinds so and each family reads them in its own way; the
+// kinds of the house family have words.
 #[derive(Clone, Copy)]
 pub(crate) struct Kind(pub(crate) u8);
 

@@ -30,7 +30,8 @@ fn differ(x: bool, y: bool) -> bool
     x != y
 }
 
-// Whether a row comes before another: at the first difference it has the statement. The order is strict and total.
+// Whether a row comes before another: at the first difference it has the statement. The order is strict and total. Stays a
+// loop: a chain that finds the first difference would have to ask there again which row has the statement.
 pub fn precedes(row: &[bool], other: &[bool]) -> bool
     ensures decided { Decides result (Precedes row.now other.now) }
     ensures order { Order }

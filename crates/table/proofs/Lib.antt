@@ -10,3 +10,4 @@ pub mod Determined
 pub mod Places
 pub mod Example
 pub mod Tails
+pub mod Names

@@ -11,6 +11,7 @@ use layout::bytes::part;
 use layout::records::Record;
 use refusal::Fault;
 use semantics::{Member, Relation};
+use std::str::from_utf8;
 
 // The places from first to before end of an area.
 #[derive(Clone, Copy)]
@@ -58,7 +59,8 @@ impl From<Record<'_>> for RuleView {
     }
 }
 
-// An aggregate, its set by the places of its members.
+// An aggregate, its set by the places of its members. Its kind stays a number: every family numbers its own kinds, and a
+// table does not know which one will read it.
 #[derive(Clone, Copy)]
 pub struct AggregateView {
     pub kind: u8,
@@ -73,6 +75,7 @@ impl From<Record<'_>> for AggregateView {
     fn from(record: Record) -> AggregateView {
         AggregateView {
             kind: record.byte(0),
+            // The check accepts no code that is not a relation's.
             relation: Relation::try_from(record.byte(1)).unwrap_or(Relation::More),
             bound: record.whole(8),
             members: Run::new(usize::from(record.word(4)), record.byte(2)),
@@ -255,11 +258,18 @@ impl<'a> Table<'a> {
         self.record(Area::Members, k).map_or(NO_MEMBER, read_member)
     }
 
-    // The name of a statement; past the last one, no bytes.
-    pub fn name(&self, statement: u16) -> &'a [u8]
+    // The bytes of the name of a statement; past the last one, none.
+    fn name_bytes(&self, statement: u16) -> &'a [u8]
         ensures { result.now ≡ slice_index_or (contents_of self.now).names statement [] }
     {
         self.record(Area::Statements, usize::from(statement))
             .map_or(&[], read_name)
+    }
+
+    // The name of a statement; past the last one, no text. What the check accepts has names of visible ASCII signs only.
+    pub fn name(&self, statement: u16) -> &'a str
+        ensures { result.now ≡ slice_index_or (contents_of self.now).names statement [] }
+    {
+        from_utf8(self.name_bytes(statement)).unwrap_or("")
     }
 }

@@ -1,12 +1,8 @@
 use Rattle.judging.proofs.Runs.{whole_run}
 use Rattle.judging.proofs.LiteralRuns.{with_literal}
 use Rattle.judging.proofs.literals.judge_literals.Goals as goal
-use Rattle.table.proofs.Tails.{tail_none}
 use Rattle.table.specs.Tables.{contents_of}
 use Rattle.std.proofs.Common.{arith}
-
-pub loop-k-init : goal.loop-k-init
-loop-k-init c = ((λ h. h), λ ls inside h. rw (tail_none (contents_of c.args.table.now).literals c.args.run.end) h)
 
 pub loop-k-preserved : goal.loop-k-preserved
 loop-k-preserved c = (

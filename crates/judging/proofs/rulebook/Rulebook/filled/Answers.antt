@@ -1,13 +1,8 @@
-use Rattle.judging.proofs.Runs.{whole_run}
 use Rattle.judging.proofs.Filling.{one_more_filled}
 use Rattle.judging.proofs.rulebook.Rulebook.filled.Goals as goal
 use Rattle.std.proofs.lemmas.Int.{to_z-of_z}
-use Rattle.table.proofs.Tails.{tail_none}
 use Rattle.judging.specs.Rulebooks.{contents_in}
 use Rattle.std.proofs.Common.{length, arith, w32, SFits, rules}
-
-pub loop-k-init : goal.loop-k-init
-loop-k-init g c = ((λ h. h), λ inside few. rw (tail_none (contents_in c.args.self.now).members c.args.members.end) c.start-tally.ensures)
 
 pub loop-k-preserved : goal.loop-k-preserved
 loop-k-preserved g c = (
@@ -22,8 +17,3 @@ loop-k-preserved g c = (
       (tallies c.loop-k.tally c.args.kind) (tallies c.add_marked.new.tally c.args.kind) a.result c.mark-mark.result a.ensures.value (a.ensures.limits (omega arith)) c.mark-mark.ensures
       ((simp to_z-of_z at c.add_marked.ensures) c.args.kind) (c.loop-k.invariant.1 inside few),
 )
-
-pub returns : goal.returns
-returns g c = λ ms cover few.
-    let whole = whole_run (contents_in c.args.self.now).members ms c.args.members c.loop-k.k cover c.loop-k.invariant.0 c.loop-k-test.false in
-    rw whole at (c.loop-k.invariant.1 cover.inside few)

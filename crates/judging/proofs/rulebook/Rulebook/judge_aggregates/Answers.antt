@@ -3,11 +3,7 @@ use Rattle.family.specs.declared.reading.Verdict.TheVariants.{Impossible}
 use Rattle.judging.proofs.BodyVerdicts.{impossible_before, judges_before}
 use Rattle.judging.proofs.rulebook.Rulebook.judge_aggregates.Goals as goal
 use Rattle.judging.specs.Rulebooks.{contents_in}
-use Rattle.table.proofs.Tails.{tail_none}
 use Rattle.std.proofs.Common.{◌≡◌, rules, arith}
-
-pub loop-j-init : goal.loop-j-init
-loop-j-init g c = ((λ h. h), λ inside. rw (tail_none (contents_in c.args.self.now).aggregates c.args.run.end) ((λ a i. absurd i), λ h. absurd h.1))
 
 pub loop-j-preserved-then-ne : goal.loop-j-preserved-then-ne
 loop-j-preserved-then-ne g c = (

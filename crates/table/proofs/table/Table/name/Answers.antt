@@ -1,15 +1,14 @@
-use Rattle.layout.specs.declared.area.Area.TheVariants.{Statements}
-use Rattle.std.proofs.Common.{◌≡◌, ◌∙◌, ap, [], slice_index_or}
-use Rattle.table.proofs.Places.{name_there, past_names, read_there}
+use Rattle.std.proofs.Common.{◌≡◌, ℕ, List, Ok, Err, MatchResult, Result, Bor, ap, ◌∙◌}
+use Rattle.table.proofs.Names.{name_is_text}
 use Rattle.table.proofs.table.Table.name.Goals as goal
-use Rattle.table.specs.Tables.{contents_of}
-use Rattle.table.specs.View.{name_read}
+use Rattle.std.specs.Result.{result_unwrap_or}
+use Rattle.std.specs.Str.{IsUtf8}
+
+text_kept : {E : Type 0} (Q : E → Type 0) (r : Result (Bor (List ℕ)) E) (bytes : List ℕ) (other : Bor (List ℕ)) → IsUtf8 bytes → MatchResult r (λ s. (s.now ≡ bytes) × IsUtf8 bytes) (λ e. ¬ (IsUtf8 bytes) × Q e) → (result_unwrap_or r other).now ≡ bytes
+text_kept Q (Ok s) bytes other h p = p.0
+text_kept Q (Err e) bytes other h p = absurd (p.0 h)
 
 pub returns : goal.returns
 returns c =
-    let i = c.from.result in
-    let held = contents_of c.args.self.now in
-    rw (← c.from.ensures)
-    (read_there Statements c.record.result name_read _ (λ r. r ≡ slice_index_or held.names i []) c.record.ensures c.map_or.ensures
-    (λ past e. ap (λ name. name.now) e ∙ past_names _ i past)
-    (λ ok l. name_there _ ok i l))
+    let text : IsUtf8 c.name_bytes.result.now = rw c.name_bytes.ensures (name_is_text c.args.self.now.bytes.now c.args.statement) in
+    ap (λ s. s.now) c.unwrap_or.ensures ∙ text_kept _ _ _ _ text c.from_utf8.ensures.cases ∙ c.name_bytes.ensures
