@@ -78,6 +78,7 @@ impl Marking {
         ensures { result ≡ how_open self.now }
     {
         let open = self.marks().iter().filter(|mark| **mark == Mark::Open);
+        // Stays `as`: there are at most 128, and `try_from` would give a failure that can't be.
         open.count() as u16
     }
 

@@ -192,6 +192,7 @@ impl<'a> Table<'a> {
         ensures { ShowsRecord self.now.bytes.now area i result }
     {
         if i < usize::from(self.held(area)) {
+            // Stays `as`: `i` is below a u16, and `try_from` would give a failure that can't be.
             Some(area.record(self.bytes, i as u32))
         } else {
             None
