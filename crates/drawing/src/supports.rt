@@ -27,7 +27,7 @@ impl Support {
     }
 }
 
-// The support of each statement, within the format's limit of 128 statements.
+// The support of each statement, within the format's limit of 128 statements. Stays an array: drawing allocates nothing.
 #[derive(Drop)]
 pub(crate) struct Supports {
     by: [Support; 128],

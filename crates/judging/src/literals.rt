@@ -11,7 +11,7 @@ use semantics::Mark;
 use table::table::{Run, Table};
 
 // A statement that should be in, or out. It has the fields of a finding, but a finding says what the movement is like, and
-// a literal what a rule asks for: the two stay apart.
+// a literal what a rule asks for. One type is no plainer: a rule's literals would have to be called found.
 #[derive(Clone, Copy, PartialEq, Eq, Debug)]
 pub struct Literal {
     pub statement: u16,

@@ -26,7 +26,7 @@ impl Model for Marking {
 
     ghost Value = { List Mark };
 
-    ghost use Rattle.marking.specs.Fields.{IsPadded, fields, fields-marks_held, marks_held};
+    ghost use Rattle.marking.specs.Fields.{IsPadded, fields, fields_marks_held, marks_held};
 
     ghost view = { marks_held };
 
@@ -34,7 +34,7 @@ impl Model for Marking {
 
     ghost inverse = { fields };
 
-    ghost inverse_ok = { fields-marks_held };
+    ghost inverse_ok = { fields_marks_held };
 }
 
 impl Marking {

@@ -44,7 +44,7 @@ pub fn precedes(row: &[bool], other: &[bool]) -> bool
     false
 }
 
-// Whether the whole has a statement if the part has it.
+// Whether the whole has a statement if the part has it. Stays a function as `differ` does.
 fn covers(whole: bool, part: bool) -> bool
     ensures { result ≡ (not part || whole) }
 {
@@ -61,7 +61,8 @@ pub fn is_proper_part(part: &[bool], whole: &[bool]) -> bool
         && part.iter().zip(whole).all(|(x, y)| covers(*y, *x))
 }
 
-// Whether a row has a statement that was found present, or lacks one that was found absent.
+// Whether a row has a statement that was found present, or lacks one that was found absent. Stays a function as `differ`
+// does.
 fn confirms(row: &[bool], finding: Finding) -> bool
     ensures { result ≡ cond finding.present (has row.now finding.statement) (not (has row.now finding.statement)) }
 {

@@ -13,7 +13,7 @@ use refusal::Fault;
 use semantics::{Member, Relation};
 use std::str::from_utf8;
 
-// The places from first to before end of an area.
+// The places from first to before end of an area. Stays a struct: the library's ranges are not `Copy`, and views are.
 #[derive(Clone, Copy)]
 pub struct Run {
     pub first: usize,
