@@ -4,9 +4,10 @@ ghost use Rattle.family.specs.Readings.{Reads};
 ghost use Rattle.family.specs.Spans.{Small};
 ghost use Rattle.family.specs.Tallies.{Keeps};
 ghost use Rattle.semantics.specs.Families.{bench};
+ghost use Rattle.semantics.proofs.Families.{bench_lawful};
 
 use super::kind::BenchKind;
-use family::{Bag, Reading, Span};
+use family::{Bag, Kind, Reading, Span};
 
 // How far the greatest is from the least.
 fn width(span: Span) -> i64
@@ -53,11 +54,20 @@ fn odds(sure: &Bag, opens: &Bag) -> Span
     }
 }
 
-impl BenchKind {
-    // What the bags come to that have every sure weight and some, none or all of the open ones.
-    pub(crate) fn read(self, sure: &Bag, opens: &Bag) -> Reading
-        ensures { (s o : List ℤ) → Keeps sure.now s → Keeps opens.now o → Reads (bench (number self)) s o result }
-    {
+impl Kind for BenchKind {
+    const COUNT: u16 = 2;
+
+    ghost COUNT = { 2 };
+
+    ghost number = { number };
+
+    ghost value = { bench };
+
+    ghost numbers = { λ k r h. h };
+
+    ghost lawful = { bench_lawful };
+
+    fn read(self, sure: &Bag, opens: &Bag) -> Reading {
         match self {
             BenchKind::Spread => spreads(sure, opens),
             BenchKind::Odd => Reading::within(odds(sure, opens)),

@@ -8,7 +8,7 @@ use super::demands::meet;
 use super::forcing::Clash;
 use super::supports::Supports;
 use family::Family;
-use judging::{Body, Rulebook};
+use judging::{Body, Rulebook, judge_head};
 use marking::Marking;
 
 // What a sweep changes, the marking and the supports, stays apart from the rulebook, which it only reads: a struct of all
@@ -29,7 +29,7 @@ fn apply_rule<F: Family>(
         return Ok(());
     }
     supports.add_heads(book.table, book.table.rule(i).head, i);
-    meet(marking, body, book.judge_head(marking, i))
+    meet(marking, body, judge_head(book.table, marking, i))
 }
 
 // Applies the first and the third step to each rule in turn, and counts for each statement the rules that are left.

@@ -27,7 +27,7 @@ impl Support {
     }
 }
 
-// The support of each statement, within the format's limit of 128 statements.
+// The support of each statement, within the format's limit of 128 statements. Stays an array: drawing allocates nothing.
 #[derive(Drop)]
 pub(crate) struct Supports {
     by: [Support; 128],
@@ -48,7 +48,7 @@ impl Supports {
         ensures { result ≡ supported_by self.now.by statement }
     {
         self.by
-            .get(statement as usize)
+            .get(usize::from(statement))
             .copied()
             .unwrap_or(Support::Unsupported)
     }
@@ -58,7 +58,7 @@ impl Supports {
     fn add_rule(&mut self, statement: u16, rule: usize)
         ensures { self.new.by ≡ slice_set self.old.by statement (with_rule (supported_by self.old.by statement) rule) }
     {
-        let place = statement as usize;
+        let place = usize::from(statement);
         if place < self.by.len() {
             self.by[place] = self.by[place].with(rule);
         }

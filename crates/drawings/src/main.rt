@@ -2,6 +2,7 @@
 
 use anyhow::anyhow;
 use bench::Bench;
+use cases::Word;
 use drawing::draw;
 use family::Family;
 use house::House;
@@ -20,16 +21,6 @@ struct Case {
     bytes: Vec<u8>,
 }
 
-// Adds the bytes of a word. This stays beside its like in `refusals`: a crate of both would be longer than these lines.
-fn push_bytes(bytes: &mut Vec<u8>, word: &str) -> anyhow::Result<()> {
-    let (digits, times) = word.split_once('*').unwrap_or((word, "1"));
-    let part = hex::decode(*bytes.allocator(), digits)?;
-    for _ in 0..times.parse::<u16>()? {
-        bytes.extend_from_slice(&part)?;
-    }
-    Ok(())
-}
-
 fn push_finding(findings: &mut Vec<Finding>, number: &str, present: bool) -> anyhow::Result<()> {
     let statement = number.parse::<u16>()?;
     findings.push(Finding { statement, present })?;
@@ -44,7 +35,7 @@ impl Case {
             match (word.strip_prefix('+'), word.strip_prefix('-')) {
                 (Some(number), _) => push_finding(&mut findings, number, true)?,
                 (_, Some(number)) => push_finding(&mut findings, number, false)?,
-                (None, None) => push_bytes(&mut bytes, word)?,
+                (None, None) => Word::parse(word)?.push_to(&mut bytes)?,
             }
         }
         Ok(Case { findings, bytes })
@@ -107,6 +98,7 @@ fn tell(rt: &HostRuntime, line: &str) -> anyhow::Result<()> {
     Ok(())
 }
 
+// The loop over the lines stays in each of the three programs: a function that takes `tell` would be longer than the loop.
 fn main(rt: HostRuntime) -> anyhow::Result<()> {
     let text = std::io::read_to_string(rt.alloc(), rt.stdin())?;
     for line in text.lines() {

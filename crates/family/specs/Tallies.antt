@@ -11,6 +11,10 @@ use Rattle.std.specs.Result.{result_ok}
 abbrev pub Numbers : {K : Type 0} → (K → ℕ) → ℕ → ℕ → Result K LackingKind → Type 0
 Numbers number kinds k r = MatchResult r (λ kind. number kind ≡ k) (λ e. (e.0 ≡ k) × (kinds ≤ k))
 
+-- and so for every number that turns into a kind, or into an error
+abbrev pub AreNumbers : {K : Type 0} → (K → ℕ) → ℕ → (ℕ → Result K LackingKind → Type 0) → Type 0
+AreNumbers {K} number kinds gives = (k : ℕ) (r : Result K LackingKind) → gives k r → Numbers number kinds k r
+
 -- this is the kind that the number k turns into, or it turns into none
 abbrev pub Numbered : {K : Type 0} → (ℕ → Result K LackingKind → Type 0) → Option K → ℕ → Type 0
 Numbered {K} gives kind k = (r : Result K LackingKind) × gives k r × (result_ok r ≡ kind)

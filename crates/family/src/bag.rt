@@ -1,4 +1,4 @@
-ghost use Rattle.std.specs.Prelude.{◌+◌, ◌<◌, ◌≤◌, List, [], ◌∷◌, ℤ};
+ghost use Rattle.std.specs.Prelude.{◌≡◌, ◌+◌, ◌<◌, ◌≤◌, List, [], ◌∷◌, ℤ};
 ghost use Rattle.family.specs.Spans.{SmallIfAny};
 ghost use Rattle.family.specs.Sums.{Bounded};
 ghost use Rattle.semantics.specs.Families.{Weight};
@@ -41,7 +41,8 @@ impl Bag {
     pub(crate) fn put(&mut self, weight: i64)
         requires room { self.old.count < 128 }
         requires small { Weight weight }
-        ensures { (v : List ℤ) → Keeps self.old v → Keeps self.new (weight ∷ v) }
+        ensures counted { self.new.count ≡ self.old.count + 1 }
+        ensures kept { (v : List ℤ) → Keeps self.old v → Keeps self.new (weight ∷ v) }
     {
         self.count += 1;
         self.below += weight.min(0);

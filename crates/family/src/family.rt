@@ -1,9 +1,12 @@
 ghost use Rattle.std.specs.Prelude.{◌≡◌, ℕ, List, [], ◌∷◌, ℤ};
 ghost use Rattle.family.specs.Bags.{Takes};
+ghost use Rattle.family.specs.Tallies.{Tallies};
 ghost use Rattle.family.specs.Readings.{Reads};
 ghost use Rattle.semantics.specs.Families.{Lawful, Values};
 
+use super::kind::Kind;
 use super::reading::Reading;
+use super::tally::Tally;
 
 // A family of aggregate functions. Each kind has a value of every bag of weights, and a tally keeps what is needed of
 // the sure and of the open weights of a set to tell which values the set can come to.
@@ -46,4 +49,45 @@ pub trait Family {
     // There are at most 256 kinds, the order of a bag never matters, a kind that is lacking makes nothing of any bag,
     // and numbers are within 1,000,000,000,000 of zero.
     ghost lawful: { (f : Self) → Lawful (size f) (value f) };
+}
+
+// A family that keeps what a tally's two bags tell, and has these kinds. A family that keeps anything else implements
+// `Family` itself.
+pub trait Kinded {
+    type Kind: Kind;
+}
+
+impl<F: Kinded> Family for F {
+    type Tally = Tally<F::Kind>;
+
+    ghost size = { λ _. F.Kind.COUNT };
+
+    ghost value = { λ _. F.Kind.value };
+
+    ghost tallies = { λ _. Tallies F.Kind.try_from_gives };
+
+    ghost lawful = { λ _. F.Kind.lawful };
+
+    fn kinds(&self) -> u16 {
+        F::Kind::COUNT
+    }
+
+    fn start(&self, kind: u8) -> Tally<F::Kind> {
+        Tally::start(kind)
+    }
+
+    fn add_sure(&self, tally: &mut Tally<F::Kind>, weight: i32) {
+        tally.add_sure(weight);
+    }
+
+    fn add_open(&self, tally: &mut Tally<F::Kind>, weight: i32) {
+        tally.add_open(weight);
+    }
+
+    fn read(&self, tally: &Tally<F::Kind>) -> Reading {
+        match tally.kind {
+            Some(kind) => kind.read(&tally.sure, &tally.open),
+            None => Reading::nothing_or(None),
+        }
+    }
 }

@@ -1,5 +1,10 @@
-ghost use Rattle.std.specs.Prelude.{◌++◌, Some, codes, decimal};
+ghost use Rattle.std.specs.Prelude.{◌++◌, ℕ, Some, codes, decimal, List, ℤ};
+ghost use Rattle.family.specs.Readings.{Reads};
+ghost use Rattle.family.specs.Tallies.{AreNumbers, Keeps};
+ghost use Rattle.semantics.specs.Families.{Lawful, Values};
 
+use super::bag::Bag;
+use super::reading::Reading;
 use std::error::Error;
 use std::fmt;
 
@@ -16,3 +21,26 @@ impl fmt::Display for LackingKind {
 }
 
 impl Error for LackingKind {}
+
+// The kinds of a family, each made of its number, and read from what is kept of two bags.
+pub trait Kind: TryFrom<u8, Error = LackingKind> + Copy {
+    // How many there are.
+    const COUNT: u16;
+
+    ghost COUNT: { ℕ };
+
+    // The number of each.
+    ghost number: { Self → ℕ };
+
+    // What the kind with each number makes of a bag.
+    ghost value: { Values };
+
+    // What the bags come to that have every sure weight and some, none or all of the open ones.
+    fn read(self, sure: &Bag, opens: &Bag) -> Reading
+        ensures { (s o : List ℤ) → Keeps sure.now s → Keeps opens.now o → Reads (value (number self)) s o result };
+
+    // A number turns into the kind that has it, or is past those of all kinds.
+    ghost numbers: { AreNumbers number COUNT Self.try_from_gives };
+
+    ghost lawful: { Lawful COUNT value };
+}

@@ -9,8 +9,8 @@ mod text;
 mod weights;
 
 pub use bag::Bag;
-pub use family::Family;
-pub use kind::LackingKind;
+pub use family::{Family, Kinded};
+pub use kind::{Kind, LackingKind};
 pub use reading::{Reading, Span, Verdict};
 pub use tally::Tally;
 pub use weights::{takes, widened};

@@ -4,7 +4,7 @@ ghost use Rattle.std.specs.Prelude.{◌≡◌, not, ℤ, ◌≤ℤ◌, Decides};
 
 use semantics::Relation;
 
-// The whole numbers from the least to the greatest.
+// The whole numbers from the least to the greatest. Stays a struct: the library's ranges are not `Copy`, and a reading is.
 #[derive(Clone, Copy, PartialEq, Eq, Debug)]
 pub struct Span {
     pub least: i64,
@@ -20,7 +20,8 @@ pub struct Reading {
     pub numbers: Option<Span>,
 }
 
-// What is known of an aggregate, or of the body of a rule, under a marking.
+// What is known of an aggregate, or of the body of a rule, under a marking. Stays an enum of three: an `Option<bool>`
+// would say less by its words.
 #[derive(Clone, Copy, PartialEq, Eq, Debug)]
 pub enum Verdict {
     Certain,

@@ -1,20 +1,34 @@
-ghost use Rattle.std.specs.Prelude.{◌≡◌, ℕ, List, [], ◌∷◌, ℤ};
+ghost use Rattle.std.specs.Prelude.{◌≡◌, ◌+◌, ◌≤◌, IfOk, ℕ, List, [], ◌∷◌, ℤ};
 ghost use Rattle.family.specs.Bags.{Takes};
-ghost use Rattle.family.specs.Tallies.{Tallies};
 
 use super::bag::Bag;
 use super::kind::LackingKind;
 use super::weights::takes;
+use std::alloc::AllocError;
 
-// What is kept of a bag of sure weights and a bag of open ones, for one kind, or for none that the family has.
-#[derive(Clone, Copy)]
+// What is kept of a bag of sure weights and a bag of open ones, for one kind, or for none that the family has. A sure and
+// an open weight are added by two calls, as a family does it: each has a promise with no case in it.
 pub struct Tally<K> {
     pub kind: Option<K>,
     pub sure: Bag,
     pub open: Bag,
+    pub ghost few: { sure.count + «open».count ≤ 128 },
 }
 
+// Written out: Clone is not derived for a struct that is generic and has a ghost field.
+impl<K: Copy> Clone for Tally<K> {
+    fn clone(&self) -> Result<Tally<K>, AllocError>
+        ensures { IfOk result (λ t. t ≡ self.now) }
+    {
+        Ok(*self)
+    }
+}
+
+impl<K: Copy> Copy for Tally<K> {}
+
 impl<K: TryFrom<u8, Error = LackingKind> + Copy> Tally<K> {
+    ghost use Rattle.family.specs.Tallies.{Tallies};
+
     // Of the kind with this number, with no weights.
     pub fn start(kind: u8) -> Tally<K>
         ensures { Tallies K.try_from_gives result kind [] [] }

@@ -21,6 +21,7 @@ fn area_end(bytes: &[u8], area: Area) -> usize
     area.record(bytes, u32::from(area.count(bytes))).at
 }
 
+// Where the area before this one ends. Stays a match: a method that names the area before would be the same match.
 fn end_before(bytes: &[u8], area: Area) -> usize
     ensures { result ≡ end_before bytes.now area }
 {

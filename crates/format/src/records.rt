@@ -15,7 +15,8 @@ pub(crate) fn record_before(area: Area, bytes: &[u8], i: u16) -> Option<Record<'
         .map(|before| area.record(bytes, u32::from(before)))
 }
 
-// The first fault of the records 0 to n - 1, each of which is checked by itself: record i has the faults found i.
+// The first fault of the records 0 to n - 1, each of which is checked by itself: record i has the faults found i. A check
+// takes the bytes and the number, and no `Record`: most look at the record before or at the header too.
 pub(crate) fn check_each<F: Fn(u16) -> Result<(), Fault>>(n: u16, check: F) -> Result<(), Fault>
     ghost found: { ℕ → List Fault }
     requires callable { F.IsAlwaysCallable check }

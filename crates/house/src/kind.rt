@@ -1,7 +1,9 @@
+ghost use Rattle.std.specs.Prelude.{Some};
 ghost use Rattle.family.specs.Tallies.{Numbers};
-ghost use Rattle.house.specs.Kinds.{number};
+ghost use Rattle.house.specs.Kinds.{number, word};
 
 use family::LackingKind;
+use std::fmt;
 
 // What is asked of a bag of weights.
 #[derive(Clone, Copy, PartialEq, Eq, Debug)]
@@ -25,5 +27,18 @@ impl TryFrom<u8> for HouseKind {
             3 => Ok(HouseKind::Greatest),
             _ => Err(LackingKind(number)),
         }
+    }
+}
+
+impl fmt::Display for HouseKind {
+    ghost output = { λ kind. Some (word kind) };
+
+    fn fmt<W: fmt::Write>(&self, f: &mut fmt::Formatter<W>) -> fmt::Result {
+        f.write_str(match self {
+            HouseKind::Count => "count",
+            HouseKind::Sum => "sum",
+            HouseKind::Least => "min",
+            HouseKind::Greatest => "max",
+        })
     }
 }

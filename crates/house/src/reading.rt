@@ -1,11 +1,10 @@
-ghost use Rattle.std.specs.Prelude.{◌≡◌, ◌+◌, List, ℤ, pos, ◌+ℤ◌};
-ghost use Rattle.family.specs.Readings.{Reads};
-ghost use Rattle.family.specs.Tallies.{Keeps};
+ghost use Rattle.std.specs.Prelude.{◌≡◌, ◌+◌, pos, ◌+ℤ◌};
 ghost use Rattle.house.specs.Kinds.{number};
 ghost use Rattle.semantics.specs.Families.{house};
+ghost use Rattle.semantics.proofs.Families.{house_lawful};
 
 use super::kind::HouseKind;
-use family::{Bag, Reading, Span};
+use family::{Bag, Kind, Reading, Span};
 
 // With no open weight the count is least, and with all of them greatest.
 fn counts(sure: &Bag, opens: &Bag) -> Span
@@ -30,12 +29,21 @@ fn sums(sure: &Bag, opens: &Bag) -> Span
     }
 }
 
-impl HouseKind {
-    // What the bags come to that have every sure weight and some, none or all of the open ones. With no sure weight the
-    // least and the greatest weight are any open one, or nothing.
-    pub(crate) fn read(self, sure: &Bag, opens: &Bag) -> Reading
-        ensures { (s o : List ℤ) → Keeps sure.now s → Keeps opens.now o → Reads (house (number self)) s o result }
-    {
+impl Kind for HouseKind {
+    const COUNT: u16 = 4;
+
+    ghost COUNT = { 4 };
+
+    ghost number = { number };
+
+    ghost value = { house };
+
+    ghost numbers = { λ k r h. h };
+
+    ghost lawful = { house_lawful };
+
+    // With no sure weight the least and the greatest weight are any open one, or nothing.
+    fn read(self, sure: &Bag, opens: &Bag) -> Reading {
         match (self, sure.extremes) {
             (HouseKind::Count, _) => Reading::within(counts(sure, opens)),
             (HouseKind::Sum, _) => Reading::within(sums(sure, opens)),

@@ -6,5 +6,5 @@ mod literals;
 mod rulebook;
 
 pub use bodies::Body;
-pub use literals::{Literal, Literals};
+pub use literals::{Literal, Literals, judge_head};
 pub use rulebook::Rulebook;

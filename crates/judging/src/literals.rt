@@ -1,17 +1,17 @@
-ghost use Rattle.std.specs.Prelude.{◌≡◌, ℕ, List, ◌∷◌, ◌++◌};
+ghost use Rattle.std.specs.Prelude.{◌≡◌, ℕ, false, List, ◌∷◌, ◌++◌, slice_index_or};
 ghost use Rattle.judging.specs.Literals.{LiteralsAre, as_literals};
 ghost use Rattle.judging.specs.declared.literals.Literal.{Literal};
 ghost use Rattle.semantics.specs.Markings.{at};
 ghost use Rattle.semantics.specs.declared.Mark.{Mark};
 ghost use Rattle.table.specs.Tables.{contents_of};
-ghost use Rattle.table.specs.View.{Covers};
+ghost use Rattle.table.specs.View.{Covers, no_rule};
 
 use marking::Marking;
 use semantics::Mark;
 use table::table::{Run, Table};
 
 // A statement that should be in, or out. It has the fields of a finding, but a finding says what the movement is like, and
-// a literal what a rule asks for: the two stay apart.
+// a literal what a rule asks for. One type is no plainer: a rule's literals would have to be called found.
 #[derive(Clone, Copy, PartialEq, Eq, Debug)]
 pub struct Literal {
     pub statement: u16,
@@ -71,4 +71,11 @@ pub(crate) fn judge_literals(
         all = all.and(Literal { statement, present }, marking.mark(statement));
     }
     all
+}
+
+// What a marking says of the head of rule i, that its statements be out. It asks no family, and so no rulebook.
+pub fn judge_head(table: &Table, marking: &Marking, i: usize) -> Literals
+    ensures { LiteralsAre marking.now (as_literals false (slice_index_or (contents_of table.now).rules i no_rule).head) result }
+{
+    judge_literals(table, marking, table.rule(i).head, false, Literals::Met)
 }

@@ -1,6 +1,5 @@
-ghost use Rattle.std.specs.Prelude.{◌-◌, ◌≤◌, false, List};
+ghost use Rattle.std.specs.Prelude.{◌-◌, ◌≤◌, List};
 ghost use Rattle.judging.specs.Bodies.{AggregateIs, AggregatesAre, BodyIs};
-ghost use Rattle.judging.specs.Literals.{LiteralsAre, as_literals};
 ghost use Rattle.judging.specs.Weights.{open_weights, sure_weights};
 ghost use Rattle.semantics.specs.Programs.{Aggregate};
 ghost use Rattle.semantics.specs.declared.Member.{Member};
@@ -8,7 +7,7 @@ ghost use Rattle.table.specs.View.{Covers};
 
 use super::aggregates::add_marked;
 use super::bodies::{Body, body_literals, body_of, both};
-use super::literals::{Literals, judge_literals};
+use super::literals::Literals;
 use family::{Family, Verdict};
 use marking::Marking;
 use table::table::{Run, Table};
@@ -44,6 +43,7 @@ impl<'a, F: Family> Rulebook<'a, F> {
     {
         let aggregate = self.table.aggregate(j);
         let tally = self.filled(marking, aggregate.kind, aggregate.members);
+        // Stays `as`: with `i64::from` the proof of this call did not close, rewritten for it or not.
         self.family
             .read(&tally)
             .judge(aggregate.relation, aggregate.bound as i64)
@@ -72,18 +72,5 @@ impl<'a, F: Family> Rulebook<'a, F> {
             return Body::Refuted;
         }
         body_of(literals, self.judge_aggregates(marking, rule.aggregates))
-    }
-
-    // What a marking says of the head of rule i, that its statements be out.
-    pub fn judge_head(&self, marking: &Marking, i: usize) -> Literals
-        ensures { LiteralsAre marking.now (as_literals false (rule_of self.now i).head) result }
-    {
-        judge_literals(
-            self.table,
-            marking,
-            self.table.rule(i).head,
-            false,
-            Literals::Met,
-        )
     }
 }

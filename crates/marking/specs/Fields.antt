@@ -19,13 +19,13 @@ marks_held a = take a.statements a.marks
 abbrev pub fields : List Mark → Inside
 fields m = record { marks = m ++ replicate (128 - length m) Open; statements = length m }
 
-pub length-marks_held : (a : Inside) → IsPadded a → length (marks_held a) ≡ a.statements
-length-marks_held a h = length-take-le a.statements a.marks (subst (λ n. a.statements ≤ n) (sym h.long) h.few)
+pub length_marks_held : (a : Inside) → IsPadded a → length (marks_held a) ≡ a.statements
+length_marks_held a h = length-take-le a.statements a.marks (subst (λ n. a.statements ≤ n) (sym h.long) h.few)
 
 -- the marks give the fields back
-pub fields-marks_held : (a : Inside) → IsPadded a → fields (marks_held a) ≡ a
-fields-marks_held a h =
+pub fields_marks_held : (a : Inside) → IsPadded a → fields (marks_held a) ≡ a
+fields_marks_held a h =
     let fields_with : List Mark → ℕ → Inside = λ m n. record { marks = m; statements = n } in
-    ap (λ n. fields_with (marks_held a ++ replicate (128 - n) Open) n) (length-marks_held a h)
+    ap (λ n. fields_with (marks_held a ++ replicate (128 - n) Open) n) (length_marks_held a h)
     ∙ ap (λ d. fields_with (marks_held a ++ d) a.statements) (sym h.rest)
     ∙ ap (λ m. fields_with m a.statements) (take-append-drop a.statements a.marks)

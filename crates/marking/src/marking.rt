@@ -11,8 +11,9 @@ use std::marker::Model;
 // The most statements that a marking has, which is the format's limit.
 const MOST: u16 = 128;
 
-// A mark for each statement of a table: a clause sees the list of these marks. The marks past the last statement are
-// open, so that the list gives the fields back.
+// A mark for each statement of a table: a clause sees the list of these marks. Stays an array with its length beside,
+// since nothing on a marking is on the heap and a marking is copied. The marks past the last statement are open, so that
+// the list gives the fields back.
 #[derive(Clone, Copy)]
 pub struct Marking {
     marks: [Mark; 128],
@@ -25,7 +26,7 @@ impl Model for Marking {
 
     ghost Value = { List Mark };
 
-    ghost use Rattle.marking.specs.Fields.{IsPadded, fields, fields-marks_held, marks_held};
+    ghost use Rattle.marking.specs.Fields.{IsPadded, fields, fields_marks_held, marks_held};
 
     ghost view = { marks_held };
 
@@ -33,7 +34,7 @@ impl Model for Marking {
 
     ghost inverse = { fields };
 
-    ghost inverse_ok = { fields-marks_held };
+    ghost inverse_ok = { fields_marks_held };
 }
 
 impl Marking {
@@ -42,7 +43,7 @@ impl Marking {
         ensures value { result.now ≡ self.now }
         ensures few { length result.now ≤ 128 }
     {
-        &self.marks[..self.statements as usize]
+        &self.marks[..usize::from(self.statements)]
     }
 
     // All statements open; of more than 128 statements, the first 128.
@@ -68,7 +69,7 @@ impl Marking {
     pub fn mark(&self, statement: u16) -> Mark
         ensures { result ≡ at self.now statement }
     {
-        mark_at(self.marks(), statement as usize)
+        mark_at(self.marks(), usize::from(statement))
     }
 
     // How many statements are open.
@@ -77,6 +78,7 @@ impl Marking {
         ensures { result ≡ how_open self.now }
     {
         let open = self.marks().iter().filter(|mark| **mark == Mark::Open);
+        // Stays `as`: there are at most 128, and `try_from` would give a failure that can't be.
         open.count() as u16
     }
 
@@ -86,7 +88,7 @@ impl Marking {
         ensures { self.new ≡ slice_set self.old statement mark }
     {
         if statement < self.statements {
-            self.marks[statement as usize] = mark;
+            self.marks[usize::from(statement)] = mark;
         }
     }
 

@@ -56,7 +56,7 @@ impl Refusal {
         self as u8
     }
 
-    // The part of the work that refuses so. Stays a match: it is a fact of each refusal, and no conversion.
+    // The part of the work that refuses so. Stays a match: a `From` would be the same match.
     pub fn layer(self) -> Layer
         ensures { result ≡ layer_of self }
     {

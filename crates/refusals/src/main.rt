@@ -1,25 +1,16 @@
 #![tactic(auto)]
 
+use cases::Word;
 use format::check::{Counts, check};
 
 // Says of each case what the check says of its bytes. A case is a line: a name, then bytes in hexadecimal, where
 // `00ff*3` stands for `00ff` three times.
 
-// Adds the bytes of a word. This stays beside its like in `drawings`: a crate of both would be longer than these lines.
-fn push_bytes(bytes: &mut Vec<u8>, word: &str) -> anyhow::Result<()> {
-    let (digits, times) = word.split_once('*').unwrap_or((word, "1"));
-    let part = hex::decode(*bytes.allocator(), digits)?;
-    for _ in 0..times.parse::<u16>()? {
-        bytes.extend_from_slice(&part)?;
-    }
-    Ok(())
-}
-
 fn tell(rt: &HostRuntime, line: &str) -> anyhow::Result<()> {
     let (name, words) = line.split_once(' ').unwrap_or((line, ""));
     let mut bytes = Vec::new(rt.alloc());
     for word in words.split_whitespace() {
-        push_bytes(&mut bytes, word)?;
+        Word::parse(word)?.push_to(&mut bytes)?;
     }
     match check(&bytes) {
         Ok(counts) => {
@@ -40,6 +31,7 @@ fn tell(rt: &HostRuntime, line: &str) -> anyhow::Result<()> {
     Ok(())
 }
 
+// The loop over the lines stays in each of the three programs: a function that takes `tell` would be longer than the loop.
 fn main(rt: HostRuntime) -> anyhow::Result<()> {
     let text = std::io::read_to_string(rt.alloc(), rt.stdin())?;
     for line in text.lines() {

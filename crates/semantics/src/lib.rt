@@ -8,11 +8,12 @@ ghost use Rattle.semantics.specs.Codes.{Decodes};
 ghost use Rattle.semantics.specs.Markings.{marked};
 ghost use Rattle.semantics.specs.Programs.{stands};
 ghost use Rattle.semantics.specs.Words.{mark_text, relation_text};
-ghost use Rattle.std.specs.Prelude.{◌≡◌, Some};
+ghost use Rattle.std.specs.Prelude.{◌≡◌, ◌++◌, Some, codes, decimal};
 
+use std::error::Error;
 use std::fmt;
 
-// What is known of a statement.
+// What is known of a statement. Stays an enum of three: an `Option<bool>` would say less by its words.
 #[derive(Clone, Copy, PartialEq, Eq, Debug)]
 pub enum Mark {
     Open,
@@ -71,6 +72,16 @@ impl Relation {
 // A code that no relation has.
 #[derive(Clone, Copy, PartialEq, Eq, Debug)]
 pub struct UnknownRelation(pub u8);
+
+impl fmt::Display for UnknownRelation {
+    ghost output = { λ unknown. Some (codes "no relation has code " ++ decimal unknown.0) };
+
+    fn fmt<W: fmt::Write>(&self, f: &mut fmt::Formatter<W>) -> fmt::Result {
+        write!(f, "no relation has code {}", self.0)
+    }
+}
+
+impl Error for UnknownRelation {}
 
 impl TryFrom<u8> for Relation {
     type Error = UnknownRelation;

@@ -6,7 +6,8 @@ ghost use Rattle.semantics.specs.declared.Mark.TheVariants.{Open, In, Out};
 use super::Mark;
 use super::rows::has;
 
-// Whether a statement with this mark may be in (true) or out (false).
+// Whether a statement with this mark may be in (true) or out (false). Stays a function, so that a wrong comparison is
+// refused here, and not in the proof of the chain that asks it.
 fn allows(mark: Mark, present: bool) -> bool
     ensures { result ≡ elim mark [ Open ↦ true | In ↦ present | Out ↦ not present ] }
 {
@@ -32,7 +33,7 @@ pub fn mark_at(marks: &[Mark], statement: usize) -> Mark
     marks.get(statement).copied().unwrap_or(Mark::Open)
 }
 
-// Whether a mark is kept by another: an open one by any, the others by themselves.
+// Whether a mark is kept by another: an open one by any, the others by themselves. Stays a function as `allows` does.
 fn is_kept(mark: Mark, by: Mark) -> bool
     ensures { result ≡ elim mark [ Open ↦ true | In ↦ elim by [ Open ↦ false | In ↦ true | Out ↦ false ] | Out ↦ elim by [ Open ↦ false | In ↦ false | Out ↦ true ] ] }
 {

@@ -30,7 +30,8 @@ fn differ(x: bool, y: bool) -> bool
     x != y
 }
 
-// Whether a row comes before another: at the first difference it has the statement. The order is strict and total.
+// Whether a row comes before another: at the first difference it has the statement. The order is strict and total. Stays a
+// loop: a chain that finds the first difference would have to ask there again which row has the statement.
 pub fn precedes(row: &[bool], other: &[bool]) -> bool
     ensures decided { Decides result (Precedes row.now other.now) }
     ensures order { Order }
@@ -43,7 +44,7 @@ pub fn precedes(row: &[bool], other: &[bool]) -> bool
     false
 }
 
-// Whether the whole has a statement if the part has it.
+// Whether the whole has a statement if the part has it. Stays a function as `differ` does.
 fn covers(whole: bool, part: bool) -> bool
     ensures { result ≡ (not part || whole) }
 {
@@ -60,7 +61,8 @@ pub fn is_proper_part(part: &[bool], whole: &[bool]) -> bool
         && part.iter().zip(whole).all(|(x, y)| covers(*y, *x))
 }
 
-// Whether a row has a statement that was found present, or lacks one that was found absent.
+// Whether a row has a statement that was found present, or lacks one that was found absent. Stays a function as `differ`
+// does.
 fn confirms(row: &[bool], finding: Finding) -> bool
     ensures { result ≡ cond finding.present (has row.now finding.statement) (not (has row.now finding.statement)) }
 {

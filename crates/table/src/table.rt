@@ -13,7 +13,7 @@ use refusal::Fault;
 use semantics::{Member, Relation};
 use std::str::from_utf8;
 
-// The places from first to before end of an area.
+// The places from first to before end of an area. Stays a struct: the library's ranges are not `Copy`, and views are.
 #[derive(Clone, Copy)]
 pub struct Run {
     pub first: usize,
@@ -59,7 +59,8 @@ impl From<Record<'_>> for RuleView {
     }
 }
 
-// An aggregate, its set by the places of its members.
+// An aggregate, its set by the places of its members. Its kind stays a number: every family numbers its own kinds, and a
+// table does not know which one will read it.
 #[derive(Clone, Copy)]
 pub struct AggregateView {
     pub kind: u8,
@@ -191,6 +192,7 @@ impl<'a> Table<'a> {
         ensures { ShowsRecord self.now.bytes.now area i result }
     {
         if i < usize::from(self.held(area)) {
+            // Stays `as`: `i` is below a u16, and `try_from` would give a failure that can't be.
             Some(area.record(self.bytes, i as u32))
         } else {
             None

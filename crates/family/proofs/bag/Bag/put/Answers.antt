@@ -10,8 +10,8 @@ invariant_of-self-clause-small c =
     let f = c.ranges.weight in
     (simp to_z-of_z at c.widened-self.ensures.small) c.args.self.now.small c.requires.small
 
-pub returns : goal.returns
-returns c = λ v h. record {
+pub returns-clause-kept : goal.returns-clause-kept
+returns-clause-kept c = λ v h. record {
   count = search rules;
   below = omega (arith, ints, clamps, h.below);
   above = omega (arith, ints, clamps, h.above);
