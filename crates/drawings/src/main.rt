@@ -98,7 +98,7 @@ fn tell(rt: &HostRuntime, line: &str) -> anyhow::Result<()> {
     Ok(())
 }
 
-// The loop over the lines stays in each of the three programs: a function that takes `tell` would be longer than the loop.
+// The loop over the lines stays in each of the four programs: a function that takes `tell` would be longer than the loop.
 fn main(rt: HostRuntime) -> anyhow::Result<()> {
     let text = std::io::read_to_string(rt.alloc(), rt.stdin())?;
     for line in text.lines() {

@@ -6,12 +6,11 @@ use std::io::Read;
 // One byte more than the largest table has, so that nothing longer is accepted.
 const MOST: u64 = 49_693;
 
-// Shows the table on standard input as people read it. `inspect_forced` stays a program of its own with the same lines: a
-// crate of both would be longer than the lines that it saves.
+// Shows the table on standard input as people read it, and what its rules force by themselves.
 fn main(rt: HostRuntime) -> io::Result<()> {
     let heap = rt.alloc();
     let mut bytes = Vec::new(heap);
     rt.stdin().take(MOST).read_to_end(&mut bytes)?;
-    let text = notation::shown(heap, &bytes)?;
+    let text = inspection::inspected(heap, &bytes)?;
     print!(rt; "{text}")
 }

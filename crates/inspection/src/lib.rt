@@ -38,8 +38,8 @@ fn forced_text(heap: Global, table: &Table) -> Result<String, AllocError>
 pub fn inspected(heap: Global, bytes: &[u8]) -> Result<String, AllocError>
     ensures { IfOk result (λ s. Inspected bytes.now (string_bytes s)) }
 {
-    let mut out = shown(heap, bytes)?;
     let table = Table::open(bytes);
+    let mut out = shown(heap, &table)?;
     if table.is_opened() {
         let forced = forced_text(heap, &table)?;
         out.push_str(forced.as_str())?;

@@ -5,11 +5,10 @@ use Rattle.format.specs.Faults.{verdict}
 use Rattle.format.specs.declared.check.Counts.{Counts}
 use Rattle.refusal.specs.Refusals.{refused_text}
 use Rattle.refusal.specs.declared.Fault.{Fault}
-use Rattle.notation.specs.Shown.{by_faults, counts_text, fault_text, newline, rules_text, shown}
+use Rattle.notation.specs.Shown.{by_faults, fault_text, newline, rules_text, shown, table_text}
 use Rattle.notation.specs.Text.{rule_text}
 use Rattle.semantics.specs.Programs.{Rule}
 use Rattle.std.proofs.lemmas.List.{take_all, take_more}
-use Rattle.table.specs.Contents.{contents}
 use Rattle.table.specs.View.{no_rule}
 
 -- The rules, one after another.
@@ -29,9 +28,6 @@ pub fault_line : (f : Fault) → refused_text f ++ newline ≡ fault_text f
 fault_line f = simp append_assoc
 
 -- The check's answer says which of the two texts is shown.
-abbrev table_text : List ℕ → Counts → List ℕ
-table_text b n = counts_text n ++ rules_text (contents b).names (contents b).rules
-
 by_no_fault : (fs : List Fault) (b : List ℕ) (n : Counts) → Ok n ≡ verdict fs (counts_of b) → table_text b n ≡ by_faults fs b
 by_no_fault [] b n e = let same : n ≡ counts_of b = cc in ap (table_text b) same
 by_no_fault (f ∷ fs) b n e = let z : ◌≡◌ {A = ℕ} 0 1 = cc in absurd (omega arith)

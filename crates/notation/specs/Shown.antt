@@ -28,8 +28,12 @@ abbrev pub rules_text : List (List ℕ) → List Rule → List ℕ
 rules_text names [] = []
 rules_text names (r ∷ rs) = rule_text names r ++ (newline ++ rules_text names rs)
 
+-- the counts, and the rules of a table of these bytes
+abbrev pub table_text : List ℕ → Counts → List ℕ
+table_text b n = counts_text n ++ rules_text (contents b).names (contents b).rules
+
 abbrev pub by_faults : List Fault → List ℕ → List ℕ
-by_faults [] b = counts_text (counts_of b) ++ rules_text (contents b).names (contents b).rules
+by_faults [] b = table_text b (counts_of b)
 by_faults (f ∷ fs) b = fault_text f
 
 -- the first fault of the bytes, or their counts and rules

@@ -1,5 +1,5 @@
-ghost use Rattle.notation.specs.Shown.{counts_text, fault_text, rules_text, shown};
-ghost use Rattle.std.specs.Prelude.{◌≡◌, ◌++◌, IfOk, Some, string_bytes};
+ghost use Rattle.notation.specs.Shown.{counts_text, fault_text, rules_text, shown, table_text};
+ghost use Rattle.std.specs.Prelude.{◌≡◌, IfOk, Some, string_bytes};
 ghost use Rattle.table.specs.Tables.{contents_of};
 
 use super::rules::Rule;
@@ -58,21 +58,20 @@ impl fmt::Display for Rules<'_> {
 
 // The counts of a table and its rules.
 fn table_text(heap: Global, table: Table, counts: Counts) -> Result<String, AllocError>
-    ensures { IfOk result (λ s. string_bytes s ≡ counts_text counts ++ rules_text (contents_of table.entry).names (contents_of table.entry).rules) }
+    ensures { IfOk result (λ s. string_bytes s ≡ table_text table.entry.bytes.now counts) }
 {
     let counts = CountsLine(counts);
     let rules = Rules(table);
     format!(in heap; "{counts}{rules}")
 }
 
-// The bytes of a table as people read them: why they are refused, or their counts and rules.
+// A table as people read it: why its bytes are refused, or their counts and rules.
 #[tactic(auto, using(crate::proofs::Reports::fault_shown))]
-pub fn shown(heap: Global, bytes: &[u8]) -> Result<String, AllocError>
-    ensures { IfOk result (λ s. string_bytes s ≡ shown bytes.now) }
+pub fn shown(heap: Global, table: &Table) -> Result<String, AllocError>
+    ensures { IfOk result (λ s. string_bytes s ≡ shown table.now.bytes.now) }
 {
-    let table = Table::open(bytes);
     match table.counts() {
-        Ok(counts) => table_text(heap, table, counts),
+        Ok(counts) => table_text(heap, *table, counts),
         Err(fault) => fault_text(heap, fault),
     }
 }

@@ -62,7 +62,7 @@ fn tell(rt: &HostRuntime, line: &str) -> anyhow::Result<()> {
     Ok(())
 }
 
-// The loop over the lines stays in each of the three programs: a function that takes `tell` would be longer than the loop.
+// The loop over the lines stays in each of the four programs: a function that takes `tell` would be longer than the loop.
 fn main(rt: HostRuntime) -> anyhow::Result<()> {
     let (house, bench) = (House.kinds(), Bench.kinds());
     println!(rt; "house has {house} kinds, and bench {bench}")?;
