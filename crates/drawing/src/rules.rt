@@ -1,8 +1,9 @@
-ghost use Rattle.std.specs.Prelude.{◌<◌, length};
+ghost use Rattle.std.specs.Prelude.{◌≡◌, ◌<◌, ◌↔◌, IsTrue, length};
 ghost use Rattle.drawing.specs.Applying.{Applied};
 ghost use Rattle.drawing.specs.Passing.{RulePassed};
 ghost use Rattle.drawing.specs.Sweeps.{AllStanding, Counted, CountedMore, RulesDone};
 ghost use Rattle.judging.specs.Rulebooks.{program_of, rule_of};
+ghost use Rattle.judging.specs.declared.bodies.Body.TheVariants.{Refuted};
 
 use super::demands::meet;
 use super::forcing::Clash;
@@ -13,6 +14,14 @@ use marking::Marking;
 
 // What a sweep changes, the marking and the supports, stays apart from the rulebook, which it only reads: a struct of all
 // three would have each method promise that the rules are as before.
+
+// Whether no step asks anything of a rule with this body, and it is counted for no statement. Stays a function of its own:
+// the proof of `apply_rule` is written out, so an edit of its own lines breaks that first, and not a fact about the code.
+fn is_refuted(body: Body) -> bool
+    ensures { IsTrue result ↔ (body ≡ Refuted) }
+{
+    body == Body::Refuted
+}
 
 // Applies the first and the third step to rule i, and counts it for the statements of its head unless it is refuted.
 fn apply_rule<F: Family>(
@@ -25,7 +34,7 @@ fn apply_rule<F: Family>(
     ensures counted { i < length (program_of book.now).rules → CountedMore (F.value book.now.family.now) (program_of book.now).rules i marking.old supports.old.by supports.new.by }
 {
     let body = book.judge_body(marking, i);
-    if body == Body::Refuted {
+    if is_refuted(body) {
         return Ok(());
     }
     supports.add_heads(book.table, book.table.rule(i).head, i);

@@ -5,6 +5,7 @@ use Rattle.semantics.proofs.Marks.{marked_inside, marked_once, open_unmarked}
 use Rattle.semantics.specs.Lists.{Among}
 use Rattle.semantics.specs.Markings.{Agrees, Allows, Below, at, marked}
 use Rattle.semantics.specs.Rows.{Part, Precedes, has}
+use Rattle.semantics.specs.Tests.{allows, confirms, is_kept}
 use Rattle.semantics.specs.declared.Finding.{Finding}
 use Rattle.semantics.specs.declared.Mark.{Mark}
 use Rattle.semantics.specs.declared.Mark.TheVariants.{Open, In, Out}
@@ -20,11 +21,8 @@ pub all_decides : {X : Type 0} (p : X → Bool) (P : X → Type 0) → ((x : X) 
 all_decides p P d xs = ((λ h x i. (d x).0 (all_at p xs x h i)), (λ h. all_from p xs (λ x i. (d x).1 (h x i))))
 
 -- One finding.
-abbrev pub confirmed : List Bool → Finding → Bool
-confirmed s f = cond f.present (has s f.statement) (not (has s f.statement))
-
-pub confirmed_decides : (s : List Bool) (f : Finding) → Decides (confirmed s f) (has s f.statement ≡ f.present)
-confirmed_decides s f = by_presence (has s f.statement) f.present
+pub confirms_decides : (s : List Bool) (f : Finding) → Decides (confirms s f) (has s f.statement ≡ f.present)
+confirms_decides s f = by_presence (has s f.statement) f.present
   where
     by_presence : (x y : Bool) → Decides (cond y x (not x)) (x ≡ y)
     by_presence x true = ((λ h. h), (λ h. h))
@@ -45,7 +43,7 @@ places_decided {X} p P e d n (x ∷ xs) =
 
 -- One mark and the statement that it allows.
 abbrev pub allowed : List Bool → ℕ × Mark → Bool
-allowed s p = elim p.1 [ Open ↦ true | In ↦ has s p.0 | Out ↦ not (has s p.0) ]
+allowed s p = allows p.1 (has s p.0)
 
 allowed_decides : (s : List Bool) (q : ℕ) (v : Mark) → Decides (allowed s (q, v)) (Allows v (has s q))
 allowed_decides s q Open = ((λ _ x h. absurd (open_unmarked x h)), (λ _. refl))
@@ -54,9 +52,9 @@ allowed_decides s q Out = ((λ h x k. not-true (has s q) h ∙ marked_once false
 
 -- One mark and what another marking has in its place.
 abbrev pub kept : List Mark → ℕ × Mark → Bool
-kept n p = elim p.1 [ Open ↦ true | In ↦ elim (at n p.0) [ Open ↦ false | In ↦ true | Out ↦ false ] | Out ↦ elim (at n p.0) [ Open ↦ false | In ↦ false | Out ↦ true ] ]
+kept n p = is_kept p.1 (at n p.0)
 
-same_mark : (v w : Mark) → Decides (elim v [ Open ↦ true | In ↦ elim w [ Open ↦ false | In ↦ true | Out ↦ false ] | Out ↦ elim w [ Open ↦ false | In ↦ false | Out ↦ true ] ]) ((x : Bool) → v ≡ marked x → w ≡ marked x)
+same_mark : (v w : Mark) → Decides (is_kept v w) ((x : Bool) → v ≡ marked x → w ≡ marked x)
 same_mark Open w = ((λ _ x h. absurd (open_unmarked x h)), (λ _. refl))
 same_mark In Open = ((λ h. absurd (false≢true h)), (λ k. absurd (open_unmarked true (k true refl))))
 same_mark In In = ((λ _ x h. h), (λ _. refl))

@@ -10,7 +10,8 @@ use Rattle.std.specs.List.{list_all}
 use Rattle.semantics.specs.Programs.{Program}
 use Rattle.semantics.specs.Rows.{has, Part, ProperPart, Precedes}
 use Rattle.semantics.specs.SmallTables.{Sole, InEvery}
-use Rattle.semantics.proofs.Decisions.{all_decides, confirmed, confirmed_decides}
+use Rattle.semantics.proofs.Decisions.{all_decides, confirms_decides}
+use Rattle.semantics.specs.Tests.{confirms}
 use Rattle.semantics.proofs.Order.{at_once, later}
 
 -- Tests of truth values.
@@ -110,7 +111,7 @@ module _ (value : Values) (p : Program) where
       (Decides-and _ _ (decides_itself _) (row_passes p.statements _, rows_pass p.statements _))
 
 abbrev pub is_account : Values → Program → List Finding → List Bool → Bool
-is_account value p findings s = is_answer value p s && list_all (confirmed s) findings
+is_account value p findings s = is_answer value p s && list_all (confirms s) findings
 
 -- the test holds of every account
 abbrev pub every_account : Values → Program → List Finding → (List Bool → Bool) → Bool
@@ -122,7 +123,7 @@ module _ {value : Values} {p : Program} {findings : List Finding} where
       Decides-like (is_account value p findings s)
       (λ h. record { answer = h.0; fits = h.1 })
       (λ a. (a.answer, a.fits))
-      (Decides-and _ _ (decides_answer value p s l) (all_decides _ _ (confirmed_decides s) findings))
+      (Decides-and _ _ (decides_answer value p s l) (all_decides _ _ (confirms_decides s) findings))
 
   account_passes : (f : List Bool → Bool) → every_account value p findings f ≡ true → (s : List Bool) → Account value p findings s → f s ≡ true
   account_passes f h s a =

@@ -8,3 +8,4 @@ pub mod Theorems
 pub mod Words
 pub mod Codes
 pub mod SmallTables
+pub mod Tests

@@ -1,7 +1,7 @@
 ghost use Rattle.semantics.specs.Markings.{Agrees, Below, at};
+ghost use Rattle.semantics.specs.Tests.{allows, is_kept};
 ghost use Rattle.semantics.specs.Theorems.{DrawnOnce, Leads, StepsSound};
-ghost use Rattle.std.specs.Prelude.{◌≡◌, true, false, not, Decides};
-ghost use Rattle.semantics.specs.declared.Mark.TheVariants.{Open, In, Out};
+ghost use Rattle.std.specs.Prelude.{◌≡◌, true, Decides};
 
 use super::Mark;
 use super::rows::has;
@@ -9,7 +9,7 @@ use super::rows::has;
 // Whether a statement with this mark may be in (true) or out (false). Stays a function, so that a wrong comparison is
 // refused here, and not in the proof of the chain that asks it.
 fn allows(mark: Mark, present: bool) -> bool
-    ensures { result ≡ elim mark [ Open ↦ true | In ↦ present | Out ↦ not present ] }
+    ensures { result ≡ allows mark present }
 {
     mark != Mark::from(!present)
 }
@@ -35,7 +35,7 @@ pub fn mark_at(marks: &[Mark], statement: usize) -> Mark
 
 // Whether a mark is kept by another: an open one by any, the others by themselves. Stays a function as `allows` does.
 fn is_kept(mark: Mark, by: Mark) -> bool
-    ensures { result ≡ elim mark [ Open ↦ true | In ↦ elim by [ Open ↦ false | In ↦ true | Out ↦ false ] | Out ↦ elim by [ Open ↦ false | In ↦ false | Out ↦ true ] ] }
+    ensures { result ≡ is_kept mark by }
 {
     mark == Mark::Open || mark == by
 }

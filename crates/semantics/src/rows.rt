@@ -1,7 +1,8 @@
 ghost use Rattle.semantics.specs.AnswerSets.{AgreesWith};
 ghost use Rattle.semantics.specs.Rows.{Precedes, ProperPart, has};
+ghost use Rattle.semantics.specs.Tests.{confirms};
 ghost use Rattle.semantics.specs.Theorems.{Antichain, NotedAgrees, Order, Supported};
-ghost use Rattle.std.specs.Prelude.{◌≡◌, ◌≢◌, true, false, not, cond, ◌||◌, Decides};
+ghost use Rattle.std.specs.Prelude.{◌≡◌, ◌≢◌, true, false, not, ◌||◌, Decides};
 
 use super::Finding;
 
@@ -64,7 +65,7 @@ pub fn is_proper_part(part: &[bool], whole: &[bool]) -> bool
 // Whether a row has a statement that was found present, or lacks one that was found absent. Stays a function as `differ`
 // does.
 fn confirms(row: &[bool], finding: Finding) -> bool
-    ensures { result ≡ cond finding.present (has row.now finding.statement) (not (has row.now finding.statement)) }
+    ensures { result ≡ confirms row.now finding }
 {
     has(row, usize::from(finding.statement)) == finding.present
 }

@@ -8,8 +8,8 @@ use Rattle.semantics.proofs.Lists.{among_at}
 use Rattle.table.specs.View.{no_rule}
 use Rattle.std.proofs.Common.{◌≡◌, rules}
 
-pub returns-then-eq : goal.returns-then-eq
-returns-then-eq g c =
+pub returns-then-is_refuted : goal.returns-then-is_refuted
+returns-then-is_refuted g c =
     let value = g.F.Family.value c.args.book.now.family.now in
     let p = program_of c.args.book.now in
     let m = c.args.marking.now in
