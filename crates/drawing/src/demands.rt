@@ -17,12 +17,12 @@ pub(crate) fn demand_of(body: Body, head: Literals) -> Result<Option<Literal>, C
     match (body, head) {
         (Body::Certain, Literals::Met) => Err(Clash),
         (Body::Certain, Literals::OneOpen(last)) => Ok(Some(Literal {
-            statement: last.statement,
             present: true,
+            ..last
         })),
         (Body::ButFor(last), Literals::Met) => Ok(Some(Literal {
-            statement: last.statement,
             present: !last.present,
+            ..last
         })),
         _ => Ok(None),
     }

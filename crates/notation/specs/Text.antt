@@ -1,5 +1,7 @@
 -- Rules as people write them: `a | b :- c, not d, sum{e:4, f:-4} >= 8.`
 use Rattle.std.specs.Prelude.{ℕ, zero, suc, List, [], ◌∷◌, ◌++◌, map, codes, decimal, slice_index_or}
+use Rattle.house.specs.Kinds.{word}
+use Rattle.house.specs.declared.kind.HouseKind.TheVariants.{Count, Sum, Least, Greatest}
 use Rattle.semantics.specs.Programs.{Aggregate, Rule}
 use Rattle.semantics.specs.Words.{relation_text}
 use Rattle.semantics.specs.declared.Member.{Member}
@@ -13,10 +15,10 @@ joined separator (x ∷ y ∷ ys) = x ++ (separator ++ joined separator (y ∷ y
 
 -- the kinds of the house family have words
 abbrev pub kind_text : ℕ → List ℕ
-kind_text zero = codes "count"
-kind_text (suc zero) = codes "sum"
-kind_text (suc (suc zero)) = codes "min"
-kind_text (suc (suc (suc zero))) = codes "max"
+kind_text zero = word Count
+kind_text (suc zero) = word Sum
+kind_text (suc (suc zero)) = word Least
+kind_text (suc (suc (suc zero))) = word Greatest
 kind_text (suc (suc (suc (suc k)))) = codes "kind" ++ decimal (suc (suc (suc (suc k))))
 
 -- the sign stands between a head and premises, before premises alone, and in a rule with nothing; a head alone has none
