@@ -127,8 +127,8 @@ none_lacking = refl
 forced_text : (text : List ℕ) → ForcedText two_rules text → text ≡ drawn_text
 forced_text text f =
     let g : KindsThenDrawing [] two_rules text = subst (λ l. KindsThenDrawing l two_rules text) none_lacking f in
-    let h : Draws house table_6 [] g.0 = subst (λ p. Draws house p [] g.0) example.stands g.1 in
-    g.2 ∙ ap (λ names. drawing_text names g.0) example.named ∙ text_of_drawing g.0 h
+    let h : Draws house table_6 [] g.drawing = subst (λ p. Draws house p [] g.drawing) example.stands g.drawn in
+    g.shown ∙ ap (λ names. drawing_text names g.drawing) example.named ∙ text_of_drawing g.drawing h
 
 pub two_rules_inspected : TwoRulesInspected
 two_rules_inspected out i =

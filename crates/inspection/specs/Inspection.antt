@@ -1,6 +1,6 @@
 -- A table as people read it, and what its rules force by themselves under the house family.
 use Rattle.std.specs.Prelude.{◌≡◌, ℕ, Bool, true, false, List, [], ◌∷◌, ◌++◌, Some, None, codes, Option}
-use Rattle.drawing.specs.Drawings.{Draws}
+use Rattle.drawing.specs.Drawings.{Draws, KeepsAccounts}
 use Rattle.format.specs.Check.{accepted}
 use Rattle.kinds.specs.Lacking.{lacking}
 use Rattle.marking.specs.declared.marking.Marking.{Marking}
@@ -15,9 +15,16 @@ abbrev pub drawing_text : List (List ℕ) → Option Marking → List ℕ
 drawing_text names (Some m) = marks_text names m
 drawing_text names None = codes "clash\n"
 
--- the first kind that is lacking, or the drawing from no findings
+-- the text is that of the drawing from no findings, and so says of a statement only what is so in every account
+pub record ShowsDrawing (b text : List ℕ) : Type 0 where
+  pub drawing : Option Marking
+  pub drawn : Draws house (program (contents b)) [] drawing
+  pub accounts : KeepsAccounts house (program (contents b)) [] drawing
+  pub shown : text ≡ drawing_text (contents b).names drawing
+
+-- the first kind that is lacking, or the drawing
 abbrev pub KindsThenDrawing : List Fault → List ℕ → List ℕ → Type 0
-KindsThenDrawing [] b text = (d : Option Marking) × Draws house (program (contents b)) [] d × (text ≡ drawing_text (contents b).names d)
+KindsThenDrawing [] b text = ShowsDrawing b text
 KindsThenDrawing (f ∷ fs) b text = text ≡ fault_text f
 
 abbrev pub ForcedText : List ℕ → List ℕ → Type 0
