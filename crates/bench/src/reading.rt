@@ -28,7 +28,7 @@ fn spreads(sure: &Bag, opens: &Bag) -> Reading
             least: 0,
             greatest: width(open),
         })),
-        (Some(span), open) => Reading::within(Span {
+        (Some(span), open) => Reading::only_numbers(Span {
             least: width(span),
             greatest: width(span.joined(open)),
         }),
@@ -70,7 +70,7 @@ impl Kind for BenchKind {
     fn read(self, sure: &Bag, opens: &Bag) -> Reading {
         match self {
             BenchKind::Spread => spreads(sure, opens),
-            BenchKind::Odd => Reading::within(odds(sure, opens)),
+            BenchKind::Odd => Reading::only_numbers(odds(sure, opens)),
         }
     }
 }

@@ -1,11 +1,11 @@
 -- How a sweep, and a run of sweeps, end.
-use Rattle.std.proofs.Common.{◌≡◌, ℕ, ◌<◌, ◌≤◌, Bool, true, List, length, get_or, replicate, is_err, Some, None, Ok, Err, Option, Result, sym, subst, arith}
+use Rattle.std.proofs.Common.{◌≡◌, ℕ, ◌<◌, ◌≤◌, Bool, List, length, get_or, replicate, Some, None, Option, Result, sym, subst, arith}
 use Rattle.drawing.proofs.Applying.{applied_on, applied_weaker}
 use Rattle.drawing.proofs.Demanding.{passed_settled}
-use Rattle.drawing.proofs.Deriving.{clash_from, derived_on, drawn_from}
+use Rattle.drawing.proofs.Deriving.{derived_on, drawn_from}
 use Rattle.drawing.specs.Applying.{Applied}
-use Rattle.drawing.specs.Deriving.{Derived, Failed}
-use Rattle.drawing.specs.Drawings.{KeepsAccounts, KeepsAnswers, Settles, SettlesAnswers, TheDrawing}
+use Rattle.drawing.specs.Deriving.{Derived}
+use Rattle.drawing.specs.Drawings.{KeepsAccounts, KeepsAnswers, TheDrawing}
 use Rattle.drawing.specs.Passing.{RulePassed}
 use Rattle.drawing.specs.Sweeps.{AllStanding, Counted, RulesApplied, StatementsPassed}
 use Rattle.drawing.specs.declared.forcing.Clash.{Clash}
@@ -23,7 +23,6 @@ use Rattle.semantics.specs.Programs.{Program}
 use Rattle.semantics.specs.declared.Finding.{Finding}
 use Rattle.semantics.specs.declared.Mark.{Mark}
 use Rattle.std.proofs.lemmas.List.{get_or-replicate, length-replicate}
-use Rattle.std.proofs.lemmas.Bool.{false≢true}
 use Rattle.table.specs.View.{no_rule}
 
 module _ (value : Values) (p : Program) where
@@ -52,7 +51,7 @@ module _ (value : Values) (p : Program) where
           (λ g a. let at = among_place p.rules g a in subst (RulePassed value m) (at.2 no_rule) (each at.0 at.1))
           (statements standing)
 
-  -- a sweep leaves no more statements open, and one that leaves as many has made no mark
+  -- a sweep leaves no more statements open
   pub no_more_open : (m n : List Mark) → Derived value p m n → how_open n ≤ how_open m
   no_more_open m n d = below_fewer m n d.long d.adds
 
@@ -64,14 +63,6 @@ module _ (value : Values) (p : Program) where
   settled_drawn start m n d s st e =
       let same : n ≡ m = below_same m n s.long s.adds e in
       the_drawing start n (derived_on value p start m n d s) (subst (Settled value p.rules) (sym same) (st same))
-
-  pub none_drawn : (start m : List Mark) (r : Result (Unit {0}) Clash) → is_err r ≡ true → Failed value p start → Settles value p start m r
-  none_drawn start m (Ok _) e f = absurd (false≢true e)
-  none_drawn start m (Err _) e f = clash_from value p start f
-
-  pub none_answers : (start m : List Mark) (r : Result (Unit {0}) Clash) → is_err r ≡ true → Failed value p start → SettlesAnswers value p start m r
-  none_answers start m (Ok _) e f = absurd (false≢true e)
-  none_answers start m (Err _) e f = f.unanswered
 
   -- what is kept of the answer sets that agree with a start is kept of the accounts of findings that the start allows
   pub accounts_kept : (findings : List Finding) (start : List Mark) → ((s : List Bool) → AgreesWith findings s → Agrees start s) → (r : Option Marking) → KeepsAnswers value p start r → KeepsAccounts value p findings r

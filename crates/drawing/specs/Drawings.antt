@@ -1,5 +1,4 @@
 -- What a drawing gives, over the steps and over the accounts.
-use Rattle.drawing.specs.declared.forcing.Clash.{Clash}
 use Rattle.marking.specs.declared.marking.Marking.{Marking}
 use Rattle.semantics.specs.AnswerSets.{Account, AnswerSet, NoAccount}
 use Rattle.semantics.specs.Families.{Values}
@@ -8,7 +7,7 @@ use Rattle.semantics.specs.Markings.{Clash as NoDrawing}
 use Rattle.semantics.specs.Programs.{Program, Rule}
 use Rattle.semantics.specs.declared.Finding.{Finding}
 use Rattle.semantics.specs.declared.Mark.{Mark}
-use Rattle.std.specs.Prelude.{◌≡◌, Bool, List, Some, None, Ok, Err, Option, Result}
+use Rattle.std.specs.Prelude.{◌≡◌, Bool, List, Some, None, Option}
 
 -- m is the settled marking that steps reach from the start, and there is no other
 pub record TheDrawing (value : Values) (rules : List Rule) (start m : List Mark) : Type 0 where
@@ -33,12 +32,3 @@ Draws value p findings r = DrawsFrom value p (noted p findings) r
 abbrev pub KeepsAccounts : Values → Program → List Finding → Option Marking → Type 0
 KeepsAccounts value p findings (Some m) = (s : List Bool) → Account value p findings s → Agrees m s
 KeepsAccounts value p findings None = NoAccount value p findings
-
--- of a run of sweeps, which ends with a settled marking or a clash
-abbrev pub Settles : Values → Program → List Mark → List Mark → Result (Unit {0}) Clash → Type 0
-Settles value p start m (Ok _) = TheDrawing value p.rules start m
-Settles value p start m (Err _) = NoDrawing value p.rules start
-
-abbrev pub SettlesAnswers : Values → Program → List Mark → List Mark → Result (Unit {0}) Clash → Type 0
-SettlesAnswers value p start m (Ok _) = (s : List Bool) → AnswerSet value p s → Agrees start s → Agrees m s
-SettlesAnswers value p start m (Err _) = (s : List Bool) → AnswerSet value p s → Agrees start s → ⊥

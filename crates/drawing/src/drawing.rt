@@ -26,12 +26,7 @@ pub fn draw_from<F: Family>(table: &Table, family: &F, start: Marking) -> Option
     ensures drawn { DrawsFrom (F.value family.now) (program (contents_of table.now)) start result }
     ensures answers { KeepsAnswers (F.value family.now) (program (contents_of table.now)) start result }
 {
-    let mut marking = start;
-    // Stays a test: with `.ok()?` the proof has to be written, and a wrong line here would be refused there only.
-    let Ok(()) = settle(&Rulebook { table, family }, &mut marking) else {
-        return None;
-    };
-    Some(marking)
+    settle(&Rulebook { table, family }, start)
 }
 
 // Draws what the findings force: the settled marking that steps reach from them, or none where they clash. It marks in

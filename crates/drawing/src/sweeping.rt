@@ -1,5 +1,5 @@
 ghost use Rattle.drawing.specs.Applying.{Applied};
-ghost use Rattle.drawing.specs.Drawings.{Settles, SettlesAnswers};
+ghost use Rattle.drawing.specs.Drawings.{DrawsFrom, KeepsAnswers};
 ghost use Rattle.judging.specs.Rulebooks.{program_of};
 ghost use Rattle.semantics.specs.Markings.{Settled};
 ghost use Rattle.std.specs.Prelude.{◌≡◌, ◌↔◌, IsTrue};
@@ -31,15 +31,18 @@ fn is_unchanged(before: u16, after: u16) -> bool
 }
 
 // Sweeps until no step has an open statement to mark, or there is a clash.
-pub(crate) fn settle<F: Family>(book: &Rulebook<F>, marking: &mut Marking) -> Result<(), Clash>
-    ensures drawn { Settles (F.value book.now.family.now) (program_of book.now) marking.old marking.new result }
-    ensures answers { SettlesAnswers (F.value book.now.family.now) (program_of book.now) marking.old marking.new result }
+pub(crate) fn settle<F: Family>(book: &Rulebook<F>, start: Marking) -> Option<Marking>
+    ensures drawn { DrawsFrom (F.value book.now.family.now) (program_of book.now) start result }
+    ensures answers { KeepsAnswers (F.value book.now.family.now) (program_of book.now) start result }
 {
+    let mut marking = start;
     loop {
         let open = marking.open_count();
-        sweep(book, marking)?;
+        let Ok(()) = sweep(book, &mut marking) else {
+            return None;
+        };
         if is_unchanged(open, marking.open_count()) {
-            return Ok(());
+            return Some(marking);
         }
     }
 }

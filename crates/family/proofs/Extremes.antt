@@ -1,6 +1,6 @@
 -- The extremes of bags.
 use Rattle.family.specs.Readings.{Extremes}
-use Rattle.family.specs.Spans.{Small, SmallIfAny, Spans, joined}
+use Rattle.family.specs.Spans.{Small, SmallIfAny, Spans, alone, joined}
 use Rattle.family.specs.declared.reading.Span.{Span}
 use Rattle.semantics.proofs.Families.{best_among, best_before, best_is, greatest_best, least_best}
 use Rattle.semantics.proofs.Lists.{among_either, among_left, among_right}
@@ -40,7 +40,7 @@ wider v w s t sub h k = ((k.all _ (sub _ h.least)).0, (k.all _ (sub _ h.greatest
 pub ordered : (v : List ℤ) (s : Span) → ExtremesOf v s → s.least ≤ℤ s.greatest
 ordered v s h = (h.all _ h.greatest).0
 
-of_one : (w : ℤ) → ExtremesOf (w ∷ []) (record { least = w; greatest = w })
+of_one : (w : ℤ) → ExtremesOf (w ∷ []) (alone w)
 of_one w = record { least = inl refl; greatest = inl refl; all = λ z m. elim m [ inl e ↦ (omega (arith, ints), omega (arith, ints)) | inr i ↦ absurd i ] }
 
 -- what holds of two numbers holds of either of them
@@ -61,7 +61,7 @@ joined_of v w s (Some t) h k = record {
   In : ℤ → Type 0
   In z = Among z (v ++ w)
 
-pub widened_of : (v : List ℤ) (w : ℤ) (t : Option Span) → Spans t v → ExtremesOf (w ∷ v) (joined (record { least = w; greatest = w }) t)
+pub widened_of : (v : List ℤ) (w : ℤ) (t : Option Span) → Spans t v → ExtremesOf (w ∷ v) (joined (alone w) t)
 widened_of v w t h = joined_of (w ∷ []) v _ t (of_one w) h
 
 pub joined_small : (s : Span) (t : Option Span) → Small s → SmallIfAny t → Small (joined s t)

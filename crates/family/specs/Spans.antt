@@ -10,6 +10,10 @@ use Rattle.std.specs.Prelude.{◌≡◌, List, [], ℤ, Some, None, Option, Matc
 abbrev pub Spans : Option Span → List ℤ → Type 0
 Spans s v = MatchOption s (v ≡ []) (Extremes (λ z. Among z v))
 
+-- the extremes of one weight
+abbrev pub alone : ℤ → Span
+alone w = record { least = w; greatest = w }
+
 -- both extremes are within 1,000,000 of zero
 abbrev pub Small : Span → Type 0
 Small s = Weight s.least × Weight s.greatest

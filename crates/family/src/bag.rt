@@ -4,7 +4,6 @@ ghost use Rattle.family.specs.Sums.{Bounded};
 ghost use Rattle.semantics.specs.Families.{Weight};
 
 use super::reading::Span;
-use super::weights::widened;
 
 // What is kept of a bag of weights. Each family reads from it what its kinds need; one that needs no sums pays two
 // additions a weight for them.
@@ -47,6 +46,6 @@ impl Bag {
         self.count += 1;
         self.below += weight.min(0);
         self.above += weight.max(0);
-        self.extremes = widened(self.extremes, weight);
+        self.extremes = Some(Span::alone(weight).joined(self.extremes));
     }
 }

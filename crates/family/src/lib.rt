@@ -13,4 +13,4 @@ pub use family::{Family, Kinded};
 pub use kind::{Kind, LackingKind};
 pub use reading::{Reading, Span, Verdict};
 pub use tally::Tally;
-pub use weights::{takes, widened};
+pub use weights::takes;

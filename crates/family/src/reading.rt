@@ -20,8 +20,8 @@ pub struct Reading {
     pub numbers: Option<Span>,
 }
 
-// What is known of an aggregate, or of the body of a rule, under a marking. Stays an enum of three: an `Option<bool>`
-// would say less by its words.
+// What is known of one or of several aggregates under a marking. Stays an enum of three: an `Option<bool>` would say less
+// by its words.
 #[derive(Clone, Copy, PartialEq, Eq, Debug)]
 pub enum Verdict {
     Certain,
@@ -76,7 +76,7 @@ fn opposite(relation: Relation) -> Relation
 
 impl Reading {
     // Every bag is worth a number, the least and the greatest among them.
-    pub fn within(span: Span) -> Reading
+    pub fn only_numbers(span: Span) -> Reading
         ensures { result ≡ only_numbers span }
     {
         Reading {

@@ -1,5 +1,5 @@
-ghost use Rattle.std.specs.Prelude.{◌≡◌, ◌<◌, List, ◌∷◌, ℤ, Decides};
-ghost use Rattle.family.specs.Spans.{SmallIfAny, Spans, joined};
+ghost use Rattle.std.specs.Prelude.{◌≡◌, ◌<◌, Decides};
+ghost use Rattle.family.specs.Spans.{alone, joined};
 ghost use Rattle.semantics.specs.Families.{Weight};
 
 use super::reading::Span;
@@ -12,6 +12,16 @@ pub fn takes(count: u32, weight: i32) -> bool
 }
 
 impl Span {
+    // The extremes of a bag of one weight.
+    pub(crate) fn alone(weight: i64) -> Span
+        ensures { result ≡ alone weight }
+    {
+        Span {
+            least: weight,
+            greatest: weight,
+        }
+    }
+
     // The extremes of two bags together, from those of each.
     pub fn joined(self, other: Option<Span>) -> Span
         ensures { result ≡ joined self other }
@@ -24,16 +34,4 @@ impl Span {
             },
         }
     }
-}
-
-// The extremes of a bag with one weight more.
-pub fn widened(extremes: Option<Span>, weight: i64) -> Option<Span>
-    ensures spans { (v : List ℤ) → Spans extremes v → Spans result (weight ∷ v) }
-    ensures small { SmallIfAny extremes → Weight weight → SmallIfAny result }
-{
-    let alone = Span {
-        least: weight,
-        greatest: weight,
-    };
-    Some(alone.joined(extremes))
 }

@@ -45,16 +45,16 @@ impl Kind for HouseKind {
     // With no sure weight the least and the greatest weight are any open one, or nothing.
     fn read(self, sure: &Bag, opens: &Bag) -> Reading {
         match (self, sure.extremes) {
-            (HouseKind::Count, _) => Reading::within(counts(sure, opens)),
-            (HouseKind::Sum, _) => Reading::within(sums(sure, opens)),
+            (HouseKind::Count, _) => Reading::only_numbers(counts(sure, opens)),
+            (HouseKind::Sum, _) => Reading::only_numbers(sums(sure, opens)),
             (_, None) => Reading::nothing_or(opens.extremes),
             // from the least of all to the least sure one
-            (HouseKind::Least, Some(span)) => Reading::within(Span {
+            (HouseKind::Least, Some(span)) => Reading::only_numbers(Span {
                 least: span.joined(opens.extremes).least,
                 greatest: span.least,
             }),
             // from the greatest sure one to the greatest of all
-            (HouseKind::Greatest, Some(span)) => Reading::within(Span {
+            (HouseKind::Greatest, Some(span)) => Reading::only_numbers(Span {
                 least: span.greatest,
                 greatest: span.joined(opens.extremes).greatest,
             }),

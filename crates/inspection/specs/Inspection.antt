@@ -27,8 +27,12 @@ abbrev pub KindsThenDrawing : List Fault → List ℕ → List ℕ → Type 0
 KindsThenDrawing [] b text = ShowsDrawing b text
 KindsThenDrawing (f ∷ fs) b text = text ≡ fault_text f
 
+-- how many kinds the house family has
+abbrev pub house_kinds : ℕ
+house_kinds = 4
+
 abbrev pub ForcedText : List ℕ → List ℕ → Type 0
-ForcedText b text = KindsThenDrawing (lacking 4 b) b text
+ForcedText b text = KindsThenDrawing (lacking house_kinds b) b text
 
 -- of a table that is accepted, its rules and then what they force; of other bytes, why they are refused
 abbrev pub InspectedIf : Bool → List ℕ → List ℕ → Type 0

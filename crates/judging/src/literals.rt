@@ -18,8 +18,8 @@ pub struct Literal {
     pub present: bool,
 }
 
-// What a marking says of some literals: all are as they should be; all but one, which is open; some are open; or one
-// is against its mark. A literal that is listed twice counts once.
+// What a marking says of some literals: all are as they should be; all but one, which is open; none is against its mark and
+// two or more are open; or one is against its mark. A literal that is listed twice counts once.
 #[derive(Clone, Copy, PartialEq, Eq, Debug)]
 pub enum Literals {
     Met,

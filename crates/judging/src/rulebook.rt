@@ -43,10 +43,9 @@ impl<'a, F: Family> Rulebook<'a, F> {
     {
         let aggregate = self.table.aggregate(j);
         let tally = self.filled(marking, aggregate.kind, aggregate.members);
-        // Stays `as`: with `i64::from` the proof of this call did not close, rewritten for it or not.
         self.family
             .read(&tally)
-            .judge(aggregate.relation, aggregate.bound as i64)
+            .judge(aggregate.relation, i64::from(aggregate.bound))
     }
 
     // Whether all aggregates of a run are certain, or one is impossible.

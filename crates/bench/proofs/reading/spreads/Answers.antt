@@ -18,5 +18,5 @@ pub returns-in-Some-default : goal.returns-in-Some-default
 returns-in-Some-default c = λ s o h k.
     let f : SFits w64 c.width-in-Some-default.result = search rules in
     let g : SFits w64 c.width-in-Some-default-2.result = search rules in
-    simp c.within.ensures (simp to_z-of_z (simp (c.width-in-Some-default.ensures, c.width-in-Some-default-2.ensures)
+    simp c.only_numbers.ensures (simp to_z-of_z (simp (c.width-in-Some-default.ensures, c.width-in-Some-default-2.ensures)
     (simp c.joined.ensures (spread_reads s o c.in-Some-default.span _ (simp c.in-Some-default.is-0 at h.extremes) k.extremes))))

@@ -18,4 +18,4 @@ returns g c =
     let reads : Reads (value a.kind) (sure_weights m a.members) (open_weights m a.members) c.read.result = rw shows.kind (c.read.ensures _ _ _ tallied) in
     let narrow : SFits w32 c.aggregate-aggregate.result.bound = search rules in
     let wide : SFits w64 c.aggregate-aggregate.result.bound = record { sfits = omega (arith, ints) } in
-    judged value lawful m a c.read.result reads c.judge.result (rw (shows.relation, shows.bound) ((simp to_z-of_z at c.judge.ensures) (reading_ordered value lawful m a c.read.result reads)))
+    judged value lawful m a c.read.result reads c.judge.result (rw (shows.relation, shows.bound) ((simp (to_z-of_z, c.from.ensures) at c.judge.ensures) (reading_ordered value lawful m a c.read.result reads)))
