@@ -1,5 +1,5 @@
 -- Which rules are left for a statement.
-use Rattle.std.specs.Prelude.{◌≡◌, ℕ, ◌<◌, cond, ◌⊎◌, List, [], ◌∷◌, ◌==◌, slice_index_or, slice_set}
+use Rattle.std.specs.Prelude.{◌≡◌, ℕ, ◌<◌, if◌then◌else◌, ◌⊎◌, List, [], ◌∷◌, ◌==◌, slice_index_or, slice_set}
 use Rattle.drawing.specs.declared.supports.Support.{Support}
 use Rattle.drawing.specs.declared.supports.Support.TheVariants.{Unsupported, OneRule, ManyRules}
 use Rattle.semantics.specs.Families.{Values}
@@ -14,7 +14,7 @@ supported_by by q = slice_index_or by q Unsupported
 -- with one rule more; the same rule counts once
 abbrev pub with_rule : Support → ℕ → Support
 with_rule Unsupported i = OneRule i
-with_rule (OneRule j) i = cond (j == i) (OneRule j) ManyRules
+with_rule (OneRule j) i = if j == i then OneRule j else ManyRules
 with_rule ManyRules i = ManyRules
 
 -- the rule with these head statements is added

@@ -24,7 +24,9 @@ fn start(table: &Table, findings: &[Finding]) -> Marking
 // answer set that agrees with the start.
 pub fn draw_from<F: Family>(table: &Table, family: &F, start: Marking) -> Option<Marking>
     ensures drawn { DrawsFrom (F.value family.now) (program (contents_of table.now)) start result }
-    ensures answers { KeepsAnswers (F.value family.now) (program (contents_of table.now)) start result }
+    ensures answers {
+        KeepsAnswers (F.value family.now) (program (contents_of table.now)) start result
+    }
 {
     settle(&Rulebook { table, family }, start)
 }
@@ -32,8 +34,12 @@ pub fn draw_from<F: Family>(table: &Table, family: &F, start: Marking) -> Option
 // Draws what the findings force: the settled marking that steps reach from them, or none where they clash. It marks in
 // only what every account has and out only what none has, and where it gives none there is no account.
 pub fn draw<F: Family>(table: &Table, family: &F, findings: &[Finding]) -> Option<Marking>
-    ensures drawn { Draws (F.value family.now) (program (contents_of table.now)) findings.now result }
-    ensures accounts { KeepsAccounts (F.value family.now) (program (contents_of table.now)) findings.now result }
+    ensures drawn {
+        Draws (F.value family.now) (program (contents_of table.now)) findings.now result
+    }
+    ensures accounts {
+        KeepsAccounts (F.value family.now) (program (contents_of table.now)) findings.now result
+    }
 {
     draw_from(table, family, start(table, findings))
 }

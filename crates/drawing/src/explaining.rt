@@ -21,7 +21,15 @@ pub(crate) fn explain(
     statement: u16,
     rule: usize,
 ) -> Result<(), Clash>
-    ensures { (value : Values) → OneSupport value (contents_of table.now).rules (length (contents_of table.now).rules) marking.old statement rule → at marking.old statement ≡ In → Applied value (program (contents_of table.now)) marking.old marking.new result (Explained marking.old (slice_index_or (contents_of table.now).rules rule no_rule) statement) }
+    ensures {
+        (value : Values)
+        → OneSupport value (contents_of table.now).rules (length (contents_of table.now).rules)
+            marking.old statement rule
+        → at marking.old statement ≡ In
+        → Applied value (program (contents_of table.now)) marking.old marking.new result
+            (Explained marking.old (slice_index_or (contents_of table.now).rules rule no_rule)
+                statement)
+    }
 {
     let rule = table.rule(rule);
     force_run(table, marking, rule.positive, true, None)?;

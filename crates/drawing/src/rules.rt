@@ -30,8 +30,16 @@ fn apply_rule<F: Family>(
     supports: &mut Supports,
     i: usize,
 ) -> Result<(), Clash>
-    ensures applied { i < length (program_of book.now).rules → Applied (F.value book.now.family.now) (program_of book.now) marking.old marking.new result (RulePassed (F.value book.now.family.now) marking.old (rule_of book.now i)) }
-    ensures counted { i < length (program_of book.now).rules → CountedMore (F.value book.now.family.now) (program_of book.now).rules i marking.old supports.old.by supports.new.by }
+    ensures applied {
+        i < length (program_of book.now).rules
+        → Applied (F.value book.now.family.now) (program_of book.now) marking.old marking.new result
+            (RulePassed (F.value book.now.family.now) marking.old (rule_of book.now i))
+    }
+    ensures counted {
+        i < length (program_of book.now).rules
+        → CountedMore (F.value book.now.family.now) (program_of book.now).rules i marking.old
+            supports.old.by supports.new.by
+    }
 {
     let body = book.judge_body(marking, i);
     if is_refuted(body) {
@@ -47,7 +55,14 @@ pub(crate) fn apply_rules<F: Family>(
     marking: &mut Marking,
     supports: &mut Supports,
 ) -> Result<(), Clash>
-    ensures { Counted (F.value book.now.family.now) (program_of book.now).rules 0 marking.old supports.old.by → AllStanding (F.value book.now.family.now) (program_of book.now).rules marking.old supports.old.by → RulesDone (F.value book.now.family.now) (program_of book.now) marking.old marking.new supports.new.by result }
+    ensures {
+        Counted (F.value book.now.family.now) (program_of book.now).rules 0 marking.old
+            supports.old.by
+        → AllStanding (F.value book.now.family.now) (program_of book.now).rules marking.old
+            supports.old.by
+        → RulesDone (F.value book.now.family.now) (program_of book.now) marking.old marking.new
+            supports.new.by result
+    }
 {
     for i in 0..book.table.rules() {
         apply_rule(book, marking, supports, i)?;

@@ -22,7 +22,14 @@ fn apply_statement(
     support: Support,
     statement: u16,
 ) -> Result<(), Clash>
-    ensures { (value : Values) → SupportIs value (contents_of table.now).rules (length (contents_of table.now).rules) marking.old statement support → Applied value (program (contents_of table.now)) marking.old marking.new result (Standing value (contents_of table.now).rules marking.old statement support → StatementPassed value (contents_of table.now).rules marking.old statement) }
+    ensures {
+        (value : Values)
+        → SupportIs value (contents_of table.now).rules (length (contents_of table.now).rules)
+            marking.old statement support
+        → Applied value (program (contents_of table.now)) marking.old marking.new result
+            (Standing value (contents_of table.now).rules marking.old statement support →
+                StatementPassed value (contents_of table.now).rules marking.old statement)
+    }
 {
     match support {
         Support::Unsupported => {
@@ -49,7 +56,13 @@ pub(crate) fn apply_statements(
     marking: &mut Marking,
     supports: &Supports,
 ) -> Result<(), Clash>
-    ensures { (value : Values) → Counted value (contents_of table.now).rules (length (contents_of table.now).rules) marking.old supports.now.by → Applied value (program (contents_of table.now)) marking.old marking.new result (StatementsPassed value (contents_of table.now).rules marking.old supports.now.by) }
+    ensures {
+        (value : Values)
+        → Counted value (contents_of table.now).rules (length (contents_of table.now).rules)
+            marking.old supports.now.by
+        → Applied value (program (contents_of table.now)) marking.old marking.new result
+            (StatementsPassed value (contents_of table.now).rules marking.old supports.now.by)
+    }
 {
     for statement in 0..marking.statements() {
         apply_statement(table, marking, supports.of(statement), statement)?;

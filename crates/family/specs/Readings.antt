@@ -6,7 +6,7 @@ use Rattle.family.specs.declared.reading.Verdict.{Verdict}
 use Rattle.family.specs.declared.reading.Verdict.TheVariants.{Certain, Impossible, Neither}
 use Rattle.semantics.specs.Programs.{stands}
 use Rattle.semantics.specs.declared.Relation.{Relation}
-use Rattle.std.specs.Prelude.{◌≡◌, true, false, List, ℤ, ◌≤ℤ◌, IfSome, Some, None, Decides, Option, MatchOption}
+use Rattle.std.specs.Prelude.{◌≡◌, true, false, List, ℤ, ◌≤ℤ◌, IfSome, Some, None, ◌↔◌, IsTrue, Option, MatchOption}
 
 -- z lies from the least to the greatest
 abbrev pub Within : Span → ℤ → Type 0
@@ -20,7 +20,7 @@ pub record Extremes (P : ℤ → Type 0) (s : Span) : Type 0 where
 
 -- whether nothing is reached, and the least and the greatest number that is, or that none is
 pub record Reads (value : List ℤ → Option ℤ) (sure opens : List ℤ) (r : Reading) : Type 0 where
-  pub nothing : Decides r.nothing (Reached value sure opens None)
+  pub nothing : IsTrue r.nothing ↔ Reached value sure opens None
   pub numbers : MatchOption r.numbers ((z : ℤ) → Reached value sure opens (Some z) → ⊥) (Extremes (λ z. Reached value sure opens (Some z)))
 
 -- every number from the least to the greatest does, or does not, stand in the relation

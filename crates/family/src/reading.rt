@@ -1,6 +1,6 @@
 ghost use Rattle.family.specs.Readings.{AllStand, Judges, NoneStands, Ordered, SaysCertain, SaysImpossible, Within, nothing_or, only_numbers};
 ghost use Rattle.semantics.specs.Programs.{stands};
-ghost use Rattle.std.specs.Prelude.{◌≡◌, not, ℤ, ◌≤ℤ◌, Decides};
+ghost use Rattle.std.specs.Prelude.{◌≡◌, not, ℤ, ◌≤ℤ◌, ◌↔◌, IsTrue};
 
 use semantics::Relation;
 
@@ -33,14 +33,14 @@ impl Span {
     // Whether the number lies from the least to the greatest. Stays two comparisons, which the check proves by itself: a
     // range's `contains` is no plainer, and its proof has to be written.
     pub fn has(self, z: i64) -> bool
-        ensures { Decides result (Within self z) }
+        ensures { IsTrue result ↔ Within self z }
     {
         self.least <= z && z <= self.greatest
     }
 
     // Whether every number from the least to the greatest stands in the relation to the bound.
     pub fn all_stand(self, relation: Relation, bound: i64) -> bool
-        ensures { self.least ≤ℤ self.greatest → Decides result (AllStand self relation bound) }
+        ensures { self.least ≤ℤ self.greatest → (IsTrue result ↔ AllStand self relation bound) }
     {
         match relation {
             Relation::Less => self.greatest < bound,
@@ -54,7 +54,7 @@ impl Span {
 
     // Whether none of them does.
     pub fn none_stands(self, relation: Relation, bound: i64) -> bool
-        ensures { self.least ≤ℤ self.greatest → Decides result (NoneStands self relation bound) }
+        ensures { self.least ≤ℤ self.greatest → (IsTrue result ↔ NoneStands self relation bound) }
     {
         self.all_stand(opposite(relation), bound)
     }
@@ -98,7 +98,10 @@ impl Reading {
     // Certain where a number is reached, nothing is not, and every number from the least to the greatest stands in the
     // relation to the bound; impossible where none does, or no number is reached.
     pub fn judge(self, relation: Relation, bound: i64) -> Verdict
-        ensures { Ordered self → Judges result (SaysCertain self relation bound) (SaysImpossible self relation bound) }
+        ensures {
+            Ordered self
+            → Judges result (SaysCertain self relation bound) (SaysImpossible self relation bound)
+        }
     {
         match self.numbers {
             None => Verdict::Impossible,

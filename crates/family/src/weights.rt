@@ -1,4 +1,4 @@
-ghost use Rattle.std.specs.Prelude.{◌≡◌, ◌<◌, Decides};
+ghost use Rattle.std.specs.Prelude.{◌≡◌, ◌<◌, ◌↔◌, IsTrue};
 ghost use Rattle.family.specs.Spans.{alone, joined};
 ghost use Rattle.semantics.specs.Families.{Weight};
 
@@ -6,7 +6,7 @@ use super::reading::Span;
 
 // Whether a tally with this many weights takes this one too.
 pub fn takes(count: u32, weight: i32) -> bool
-    ensures { Decides result ((count < 128) × Weight weight) }
+    ensures { IsTrue result ↔ ((count < 128) × Weight weight) }
 {
     count < 128 && (-1_000_000..=1_000_000).contains(&weight)
 }

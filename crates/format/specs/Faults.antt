@@ -1,15 +1,15 @@
 -- Lists of faults in checking order, and the verdict that they come to.
-use Rattle.std.specs.Prelude.{ℕ, zero, suc, Bool, cond, List, [], ◌∷◌, ◌++◌, Ok, Err, Result}
+use Rattle.std.specs.Prelude.{ℕ, zero, suc, Bool, if◌then◌else◌, List, [], ◌∷◌, ◌++◌, Ok, Err, Result}
 use Rattle.refusal.specs.declared.Fault.{Fault}
 use Rattle.refusal.specs.declared.Refusal.{Refusal}
 
 -- a fault where the test is true
 abbrev pub when : Bool → Refusal → ℕ → List Fault
-when t r p = cond t (record { refusal = r; place = p } ∷ []) []
+when t r p = if t then record { refusal = r; place = p } ∷ [] else []
 
 -- a fault where the test is false
 abbrev pub unless : Bool → Refusal → ℕ → List Fault
-unless t r p = cond t [] (record { refusal = r; place = p } ∷ [])
+unless t r p = if t then [] else record { refusal = r; place = p } ∷ []
 
 -- the faults of the records 0 to n - 1, in order
 unfoldable pub each : ℕ → (ℕ → List Fault) → List Fault

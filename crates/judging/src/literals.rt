@@ -31,7 +31,12 @@ pub enum Literals {
 impl Literals {
     // With an open literal more.
     fn and_open(self, literal: Literal) -> Literals
-        ensures { (m : List Mark) (ls : List Literal) → Mark.Open ≡ at m literal.statement → LiteralsAre m ls self → LiteralsAre m (literal ∷ ls) result }
+        ensures {
+            (m : List Mark) (ls : List Literal)
+            → Mark.Open ≡ at m literal.statement
+            → LiteralsAre m ls self
+            → LiteralsAre m (literal ∷ ls) result
+        }
     {
         match self {
             Literals::Met => Literals::OneOpen(literal),
@@ -43,7 +48,12 @@ impl Literals {
 
     // With a literal more, whose statement has this mark.
     fn and(self, literal: Literal, mark: Mark) -> Literals
-        ensures { (m : List Mark) (ls : List Literal) → mark ≡ at m literal.statement → LiteralsAre m ls self → LiteralsAre m (literal ∷ ls) result }
+        ensures {
+            (m : List Mark) (ls : List Literal)
+            → mark ≡ at m literal.statement
+            → LiteralsAre m ls self
+            → LiteralsAre m (literal ∷ ls) result
+        }
     {
         if mark == Mark::Open {
             self.and_open(literal)
@@ -63,7 +73,12 @@ pub(crate) fn judge_literals(
     present: bool,
     before: Literals,
 ) -> Literals
-    ensures { (qs : List ℕ) (ls : List Literal) → Covers (contents_of table.now).literals qs run → LiteralsAre marking.now ls before → LiteralsAre marking.now (as_literals present qs ++ ls) result }
+    ensures {
+        (qs : List ℕ) (ls : List Literal)
+        → Covers (contents_of table.now).literals qs run
+        → LiteralsAre marking.now ls before
+        → LiteralsAre marking.now (as_literals present qs ++ ls) result
+    }
 {
     let mut all = before;
     for k in (run.first..run.end).rev() {
@@ -75,7 +90,10 @@ pub(crate) fn judge_literals(
 
 // What a marking says of the head of rule i, that its statements be out. It asks no family, and so no rulebook.
 pub fn judge_head(table: &Table, marking: &Marking, i: usize) -> Literals
-    ensures { LiteralsAre marking.now (as_literals false (slice_index_or (contents_of table.now).rules i no_rule).head) result }
+    ensures {
+        LiteralsAre marking.now
+            (as_literals false (slice_index_or (contents_of table.now).rules i no_rule).head) result
+    }
 {
     judge_literals(table, marking, table.rule(i).head, false, Literals::Met)
 }

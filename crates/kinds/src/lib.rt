@@ -2,7 +2,7 @@
 
 ghost use Rattle.format.specs.Faults.{verdict};
 ghost use Rattle.kinds.specs.Lacking.{KindsKnown, lacking};
-ghost use Rattle.std.specs.Prelude.{◌≡◌, is_ok, Decides};
+ghost use Rattle.std.specs.Prelude.{◌≡◌, ◌↔◌, IsOk};
 ghost use Rattle.table.specs.Tables.{contents_of};
 
 use family::Family;
@@ -13,7 +13,9 @@ use table::table::Table;
 // Refuses the first aggregate of the table whose kind the family lacks, at the place of that kind.
 pub fn check_kinds<F: Family>(table: &Table, family: &F) -> Result<(), Fault>
     ensures first { result ≡ verdict (lacking (F.size family.now) table.now.bytes.now) tt }
-    ensures known { Decides (is_ok result) (KindsKnown (F.size family.now) (contents_of table.now).aggregates) }
+    ensures known {
+        IsOk result ↔ KindsKnown (F.size family.now) (contents_of table.now).aggregates
+    }
 {
     let kinds = family.kinds();
     for j in 0..table.aggregates() {

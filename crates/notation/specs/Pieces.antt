@@ -1,5 +1,5 @@
 -- The pieces of a rule's text, by the places of a table.
-use Rattle.std.specs.Prelude.{ℕ, ◌-◌, Bool, true, false, cond, List, [], ◌∷◌, ◌++◌, map, nat_lt, slice_index, slice_index_or}
+use Rattle.std.specs.Prelude.{ℕ, ◌-◌, Bool, true, false, if◌then◌else◌, List, [], ◌∷◌, ◌++◌, map, nat_lt, slice_index, slice_index_or}
 use Rattle.notation.specs.Text.{aggregate_text, member_text, name_text, not_text}
 use Rattle.std.specs.List.{range_with_len}
 use Rattle.table.specs.Contents.{Contents}
@@ -27,7 +27,7 @@ body_run v = record { first = v.positive.first; end = v.negative.end }
 module _ (c : Contents) where
   -- the statement at place k of the literals, negated from a place on
   abbrev pub literal_piece : ℕ → ℕ → List ℕ
-  literal_piece negated k = cond (nat_lt k negated) (name_text c.names (slice_index c.literals k)) (not_text c.names (slice_index c.literals k))
+  literal_piece negated k = if nat_lt k negated then name_text c.names (slice_index c.literals k) else not_text c.names (slice_index c.literals k)
 
   abbrev pub member_piece : ℕ → List ℕ
   member_piece k = member_text c.names (slice_index_or c.members k no_member)

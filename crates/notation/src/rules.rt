@@ -134,7 +134,9 @@ fn body(rule: RuleView) -> Run
 }
 
 fn sign(rule: RuleView) -> &'static str
-    ensures { result.now ≡ sign_text (places rule.head) (places (body_run rule) ++ places rule.aggregates) }
+    ensures {
+        result.now ≡ sign_text (places rule.head) (places (body_run rule) ++ places rule.aggregates)
+    }
 {
     if is_empty(rule.head) {
         return ":- ";
@@ -154,7 +156,9 @@ struct Premises<'a> {
 }
 
 impl fmt::Display for Premises<'_> {
-    ghost output = { λ p. Some (joined (codes ", ") (premise_pieces (contents_of p.table) p.rule)) };
+    ghost output = {
+        λ p. Some (joined (codes ", ") (premise_pieces (contents_of p.table) p.rule))
+    };
 
     fn fmt<W: fmt::Write>(&self, f: &mut fmt::Formatter<W>) -> fmt::Result {
         let body = body(self.rule);
@@ -184,7 +188,11 @@ pub(crate) struct Rule<'a> {
 }
 
 impl fmt::Display for Rule<'_> {
-    ghost output = { λ r. Some (rule_text (contents_of r.table).names (slice_index_or (contents_of r.table).rules r.i no_rule)) };
+    ghost output = {
+        λ r. Some
+            (rule_text (contents_of r.table).names
+                (slice_index_or (contents_of r.table).rules r.i no_rule))
+    };
 
     fn fmt<W: fmt::Write>(&self, f: &mut fmt::Formatter<W>) -> fmt::Result {
         let rule = self.table.rule(self.i);
@@ -207,7 +215,12 @@ impl fmt::Display for Rule<'_> {
 
 // Rule i of the table; past the last one, a rule with nothing in it.
 pub fn rule_text(heap: Global, table: &Table, i: usize) -> Result<String, AllocError>
-    ensures { IfOk result (λ s. string_bytes s ≡ rule_text (contents_of table.now).names (slice_index_or (contents_of table.now).rules i no_rule)) }
+    ensures {
+        IfOk result
+            (λ s. string_bytes s
+                ≡ rule_text (contents_of table.now).names
+                    (slice_index_or (contents_of table.now).rules i no_rule))
+    }
 {
     let rule = Rule { table: *table, i };
     rule.to_string(heap)

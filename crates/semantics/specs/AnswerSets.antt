@@ -1,5 +1,5 @@
 -- Answer sets of programs with aggregates, support, and accounts of findings.
-use Rattle.std.specs.Prelude.{◌≡◌, ℕ, Bool, true, false, cond, not, ◌&&◌, ◌||◌, ◌≢◌, List, [], ◌∷◌, length, ℤ, Some, None, Option}
+use Rattle.std.specs.Prelude.{◌≡◌, ℕ, Bool, true, false, if◌then◌else◌, not, ◌&&◌, ◌||◌, ◌≢◌, List, [], ◌∷◌, length, ℤ, Some, None, Option}
 use Rattle.semantics.specs.declared.Finding.{Finding}
 use Rattle.semantics.specs.declared.Member.{Member}
 use Rattle.semantics.specs.declared.Relation.{Relation}
@@ -12,7 +12,7 @@ use Rattle.semantics.specs.Rows.{has, ProperPart, Precedes}
 -- the weights of the members whose statements f has
 abbrev pub weights : (ℕ → Bool) → List Member → List ℤ
 weights f [] = []
-weights f (m ∷ ms) = cond (f m.statement) (m.weight ∷ weights f ms) (weights f ms)
+weights f (m ∷ ms) = if f m.statement then m.weight ∷ weights f ms else weights f ms
 
 -- nothing stands in no relation
 abbrev pub passes : Relation → ℤ → Option ℤ → Bool

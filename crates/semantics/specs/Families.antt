@@ -1,5 +1,5 @@
 -- Families of aggregate functions: what each kind makes of a bag of weights.
-use Rattle.std.specs.Prelude.{◌≡◌, ℕ, zero, suc, ◌%◌, ◌≤◌, cond, List, [], ◌∷◌, length, ℤ, pos, negsuc, ◌+ℤ◌, ◌-ℤ◌, ◌≤ℤ◌, Some, None, Option, int_le}
+use Rattle.std.specs.Prelude.{◌≡◌, ℕ, zero, suc, ◌%◌, ◌≤◌, if◌then◌else◌, List, [], ◌∷◌, length, ℤ, pos, negsuc, ◌+ℤ◌, ◌-ℤ◌, ◌≤ℤ◌, Some, None, Option, int_le}
 use Rattle.std.specs.List.Sorted.{IsPermutation}
 use Rattle.semantics.specs.Lists.{Among}
 
@@ -38,11 +38,11 @@ total (w ∷ ws) = w +ℤ total ws
 -- the lesser of a number and another, where there is another; and so for the greater
 abbrev pub lesser : ℤ → Option ℤ → ℤ
 lesser w None = w
-lesser w (Some v) = cond (int_le w v) w v
+lesser w (Some v) = if int_le w v then w else v
 
 abbrev pub greater : ℤ → Option ℤ → ℤ
 greater w None = w
-greater w (Some v) = cond (int_le v w) w v
+greater w (Some v) = if int_le v w then w else v
 
 -- the least and the greatest of no weights are nothing, and not zero
 abbrev pub least : List ℤ → Option ℤ

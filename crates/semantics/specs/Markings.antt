@@ -1,5 +1,5 @@
 -- Partial markings, what is certain and what is refuted under one, and the steps of drawing.
-use Rattle.std.specs.Prelude.{◌≡◌, ℕ, ◌<◌, Bool, true, false, cond, not, ◌⊎◌, List, [], ◌∷◌, map, length, ℤ, ◌≤ℤ◌, Some, None, Option, ◌==◌, ◌≢◌, slice_index_or, slice_set}
+use Rattle.std.specs.Prelude.{◌≡◌, ℕ, ◌<◌, Bool, true, false, if◌then◌else◌, not, ◌⊎◌, List, [], ◌∷◌, map, length, ℤ, ◌≤ℤ◌, Some, None, Option, ◌==◌, ◌≢◌, slice_index_or, slice_set}
 use Rattle.std.specs.List.{range_with_len}
 use Rattle.semantics.specs.declared.Finding.{Finding}
 use Rattle.semantics.specs.declared.Mark.{Mark}
@@ -34,7 +34,7 @@ Below m n = (q : ℕ) (x : Bool) → at m q ≡ marked x → at n q ≡ marked x
 -- the weights of every member that is in, of some, none or all of the open ones, and of none that is out
 abbrev pub Bag : List Mark → List Member → List ℤ → Type 0
 Bag m [] v = v ≡ []
-Bag m (a ∷ ms) v = (b : Bool) × (u : List ℤ) × Allows (at m a.statement) b × Bag m ms u × (v ≡ cond b (a.weight ∷ u) u)
+Bag m (a ∷ ms) v = (b : Bool) × (u : List ℤ) × Allows (at m a.statement) b × Bag m ms u × (v ≡ (if b then a.weight ∷ u else u))
 
 -- the aggregate can come to this value: some bag under the marking has it
 abbrev pub Attained : Values → List Mark → Aggregate → Option ℤ → Type 0
@@ -141,7 +141,7 @@ Clash value rules start = (m : List Mark) → Drawn value rules start m → ⊥
 -- the mark that findings give a statement
 abbrev pub found : List Finding → ℕ → Mark
 found [] q = Open
-found (f ∷ fs) q = cond (f.statement == q) (marked f.present) (found fs q)
+found (f ∷ fs) q = if f.statement == q then marked f.present else found fs q
 
 -- the marking of the findings, where drawing starts
 abbrev pub noted : Program → List Finding → List Mark

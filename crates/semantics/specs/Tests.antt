@@ -3,7 +3,7 @@ use Rattle.semantics.specs.Rows.{has}
 use Rattle.semantics.specs.declared.Finding.{Finding}
 use Rattle.semantics.specs.declared.Mark.{Mark}
 use Rattle.semantics.specs.declared.Mark.TheVariants.{Open, In, Out}
-use Rattle.std.specs.Prelude.{Bool, true, false, cond, not, List}
+use Rattle.std.specs.Prelude.{Bool, true, false, if◌then◌else◌, not, List}
 
 -- whether a statement with this mark may be in (true) or out (false)
 abbrev pub allows : Mark → Bool → Bool
@@ -23,4 +23,4 @@ is_kept Out Out = true
 
 -- whether a row has a statement that was found present, or lacks one that was found absent
 abbrev pub confirms : List Bool → Finding → Bool
-confirms s f = cond f.present (has s f.statement) (not (has s f.statement))
+confirms s f = if f.present then has s f.statement else not (has s f.statement)

@@ -1,7 +1,7 @@
 ghost use Rattle.semantics.specs.Markings.{Agrees, Below, at};
 ghost use Rattle.semantics.specs.Tests.{allows, is_kept};
 ghost use Rattle.semantics.specs.Theorems.{DrawnOnce, Leads, StepsSound};
-ghost use Rattle.std.specs.Prelude.{◌≡◌, true, Decides};
+ghost use Rattle.std.specs.Prelude.{◌≡◌, true, ◌↔◌, IsTrue};
 
 use super::Mark;
 use super::rows::has;
@@ -17,7 +17,7 @@ fn allows(mark: Mark, present: bool) -> bool
 // Whether a row has what is marked in, and lacks what is marked out. An answer set that does goes on to do so after
 // every step; the marking is then not broken, and no step is against a mark.
 pub fn agrees(marks: &[Mark], row: &[bool]) -> bool
-    ensures decided { Decides result (Agrees marks.now row.now) }
+    ensures decided { IsTrue result ↔ Agrees marks.now row.now }
     ensures sound { result ≡ true → StepsSound marks.now row.now }
 {
     marks
@@ -43,7 +43,7 @@ fn is_kept(mark: Mark, by: Mark) -> bool
 // Whether a marking has every mark of another, and perhaps more. What steps reach from a start lies below the settled
 // marking that they reach from it, and leads on to it; there is only one.
 pub fn is_below(marks: &[Mark], more: &[Mark]) -> bool
-    ensures decided { Decides result (Below marks.now more.now) }
+    ensures decided { IsTrue result ↔ Below marks.now more.now }
     ensures leads { Leads marks.now more.now }
     ensures once { DrawnOnce marks.now more.now }
 {

@@ -2,7 +2,7 @@ ghost use Rattle.semantics.specs.AnswerSets.{AgreesWith};
 ghost use Rattle.semantics.specs.Rows.{Precedes, ProperPart, has};
 ghost use Rattle.semantics.specs.Tests.{confirms};
 ghost use Rattle.semantics.specs.Theorems.{Antichain, NotedAgrees, Order, Supported};
-ghost use Rattle.std.specs.Prelude.{◌≡◌, ◌≢◌, true, false, not, ◌||◌, Decides};
+ghost use Rattle.std.specs.Prelude.{◌≡◌, ◌≢◌, true, false, not, ◌||◌, ◌↔◌, IsTrue};
 
 use super::Finding;
 
@@ -34,7 +34,7 @@ fn differ(x: bool, y: bool) -> bool
 // Whether a row comes before another: at the first difference it has the statement. The order is strict and total. Stays a
 // loop: a chain that finds the first difference would have to ask there again which row has the statement.
 pub fn precedes(row: &[bool], other: &[bool]) -> bool
-    ensures decided { Decides result (Precedes row.now other.now) }
+    ensures decided { IsTrue result ↔ Precedes row.now other.now }
     ensures order { Order }
 {
     for (q, x) in row.iter().enumerate() {
@@ -54,7 +54,7 @@ fn covers(whole: bool, part: bool) -> bool
 
 // Whether a set is a proper part of another. No answer set of a program is a proper part of another one.
 pub fn is_proper_part(part: &[bool], whole: &[bool]) -> bool
-    ensures decided { Decides result (ProperPart part.now whole.now) }
+    ensures decided { IsTrue result ↔ ProperPart part.now whole.now }
     ensures antichain { Antichain part.now whole.now }
 {
     part.len() == whole.len()
@@ -72,7 +72,7 @@ fn confirms(row: &[bool], finding: Finding) -> bool
 
 // Whether a row agrees with findings: it has what was found present, and lacks what was found absent.
 pub fn agrees_with(findings: &[Finding], row: &[bool]) -> bool
-    ensures decided { Decides result (AgreesWith findings.now row.now) }
+    ensures decided { IsTrue result ↔ AgreesWith findings.now row.now }
     ensures noted { NotedAgrees }
 {
     findings.iter().all(|finding| confirms(row, *finding))

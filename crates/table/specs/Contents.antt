@@ -1,5 +1,5 @@
 -- What the bytes of a table stand for.
-use Rattle.std.specs.Prelude.{ℕ, zero, suc, ◌+◌, ◌*◌, cond, List, [], map, length, take, drop}
+use Rattle.std.specs.Prelude.{ℕ, zero, suc, ◌+◌, ◌*◌, if◌then◌else◌, List, [], map, length, take, drop}
 use Rattle.format.specs.Aggregates.{aggregate_at, first_member, member_count}
 use Rattle.layout.specs.Bytes.{byte_at, whole_at}
 use Rattle.format.specs.Check.{accepted}
@@ -80,4 +80,4 @@ nothing = record { names = []; literals = []; members = []; aggregates = []; rul
 
 -- of bytes that the check accepts, what they hold; of all others, nothing
 unfoldable pub contents : List ℕ → Contents
-contents b = cond (accepted b) (held b) nothing
+contents b = if accepted b then held b else nothing

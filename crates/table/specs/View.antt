@@ -1,5 +1,5 @@
 -- What a reading of a table shows of its contents.
-use Rattle.std.specs.Prelude.{◌≡◌, ℕ, ◌+◌, ◌-◌, ◌*◌, ◌<◌, ◌≤◌, cond, List, [], length, pos, Option, MatchOption, nat_lt}
+use Rattle.std.specs.Prelude.{◌≡◌, ℕ, ◌+◌, ◌-◌, ◌*◌, ◌<◌, ◌≤◌, if◌then◌else◌, List, [], length, pos, Option, MatchOption, nat_lt}
 use Rattle.layout.specs.Bytes.{byte_at, whole_at, word_at}
 use Rattle.format.specs.Aggregates.{aggregate_at}
 use Rattle.format.specs.Check.{accepted}
@@ -73,7 +73,7 @@ member_read b at = record { statement = byte_at b at; weight = whole_at b (at + 
 
 -- how many records of an area a table has: none where it is not opened
 abbrev pub count_held : List ℕ → Area → ℕ
-count_held b area = cond (accepted b) (count b area) 0
+count_held b area = if accepted b then count b area else 0
 
 -- x is record i of an area of a table
 pub record IsRecord (b : List ℕ) (area : Area) (i : ℕ) (x : Record) : Type 0 where
@@ -87,4 +87,4 @@ ShowsRecord b area i r = MatchOption r (count_held b area ≤ i) (IsRecord b are
 
 -- the place of the kind of aggregate j, which its record begins with; past the last one, 0
 abbrev pub kind_place : List ℕ → ℕ → ℕ
-kind_place b j = cond (nat_lt j (count_held b Aggregates)) (aggregate_at b j) 0
+kind_place b j = if nat_lt j (count_held b Aggregates) then aggregate_at b j else 0

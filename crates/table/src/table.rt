@@ -222,7 +222,10 @@ impl<'a> Table<'a> {
 
     // Rule i; past the last one, a rule with nothing in it.
     pub fn rule(&self, i: usize) -> RuleView
-        ensures { ShowsRule (contents_of self.now) (slice_index_or (contents_of self.now).rules i no_rule) result }
+        ensures {
+            ShowsRule (contents_of self.now) (slice_index_or (contents_of self.now).rules i no_rule)
+                result
+        }
     {
         self.record(Area::Rules, i).map_or(NO_RULE, RuleView::from)
     }
@@ -230,14 +233,20 @@ impl<'a> Table<'a> {
     // The statement at place k of the literals; past the last one, 0.
     pub fn literal(&self, k: usize) -> u16
         ensures value { result ≡ slice_index (contents_of self.now).literals k }
-        ensures known { k < length (contents_of self.now).literals → result < length (contents_of self.now).names }
+        ensures known {
+            k < length (contents_of self.now).literals
+            → result < length (contents_of self.now).names
+        }
     {
         self.record(Area::Literals, k).map_or(0, read_literal)
     }
 
     // Aggregate j; past the last one, one with nothing in it.
     pub fn aggregate(&self, j: usize) -> AggregateView
-        ensures { ShowsAggregate (contents_of self.now) (slice_index_or (contents_of self.now).aggregates j no_aggregate) result }
+        ensures {
+            ShowsAggregate (contents_of self.now)
+                (slice_index_or (contents_of self.now).aggregates j no_aggregate) result
+        }
     {
         self.record(Area::Aggregates, j)
             .map_or(NO_AGGREGATE, AggregateView::from)
@@ -254,7 +263,10 @@ impl<'a> Table<'a> {
     // The member at place k of the members; past the last one, statement 0 with weight 0.
     pub fn member(&self, k: usize) -> Member
         ensures value { result ≡ slice_index_or (contents_of self.now).members k no_member }
-        ensures limits { k < length (contents_of self.now).members → MemberLimits (length (contents_of self.now).names) result }
+        ensures limits {
+            k < length (contents_of self.now).members
+            → MemberLimits (length (contents_of self.now).names) result
+        }
     {
         self.record(Area::Members, k).map_or(NO_MEMBER, read_member)
     }
