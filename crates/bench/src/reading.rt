@@ -38,10 +38,8 @@ fn spreads(sure: &Bag, opens: &Bag) -> Reading
 // 1 where there is an odd number of weights, and 0 where not. An open weight makes both possible.
 fn odds(sure: &Bag, opens: &Bag) -> Span
     ensures some { 0 < opens.now.count → (result.least ≡ pos 0) × (result.greatest ≡ pos 1) }
-    ensures none {
-        opens.now.count ≡ 0
-        → (result.least ≡ pos (sure.now.count % 2)) × (result.greatest ≡ pos (sure.now.count % 2))
-    }
+    ensures none { opens.now.count ≡ 0
+        → (result.least ≡ pos (sure.now.count % 2)) × (result.greatest ≡ pos (sure.now.count % 2)) }
 {
     if opens.count > 0 {
         Span {

@@ -42,9 +42,7 @@ impl Word<'_> {
     pub fn parse(word: &str) -> Result<Word<'_>, ParseIntError>
         ensures digits { IfOk result (λ w. w.digits.now ≡ digits_text word.now) }
         ensures times { IfOk result (λ w. w.times ≡ times_of word.now) }
-        ensures ok {
-            IsOk result ↔ (IsNumeral 10 (times_numeral word.now) × (times_of word.now < 2 ^ 16))
-        }
+        ensures ok { IsOk result ↔ (IsNumeral 10 (times_numeral word.now) × (times_of word.now < 2 ^ 16)) }
         ensures err { ExplainsUnsignedError 10 (times_text word.now) result }
     {
         let (digits, times) = word.split_once('*').unwrap_or((word, "1"));
@@ -54,11 +52,7 @@ impl Word<'_> {
 
     // Adds the word's bytes.
     pub fn push_to(&self, bytes: &mut Vec<u8>) -> Result<(), AllocError>
-        ensures {
-            OnOk result
-                (bytes.new.items
-                    ≡ bytes.old.items ++ repeat self.now.times (hex_bytes self.now.digits.now))
-        }
+        ensures { OnOk result (bytes.new.items ≡ bytes.old.items ++ repeat self.now.times (hex_bytes self.now.digits.now)) }
     {
         for _ in 0..self.times {
             push_hex(bytes, self.digits.as_bytes())?;

@@ -30,11 +30,9 @@ pub(crate) fn demand_of(body: Body, head: Literals) -> Result<Option<Literal>, C
 
 // Meets the demand of a rule.
 pub(crate) fn meet(marking: &mut Marking, body: Body, head: Literals) -> Result<(), Clash>
-    ensures {
-        (value : Values) (p : Program) (g : Rule)
+    ensures { (value : Values) (p : Program) (g : Rule)
         → Demanded value p marking.old g (demand_of body head)
-        → Applied value p marking.old marking.new result (RulePassed value marking.old g)
-    }
+        → Applied value p marking.old marking.new result (RulePassed value marking.old g) }
 {
     match demand_of(body, head)? {
         Some(literal) => force(marking, literal),

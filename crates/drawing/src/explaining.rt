@@ -4,10 +4,8 @@ ghost use Rattle.drawing.specs.Supports.{OneSupport};
 ghost use Rattle.semantics.specs.Families.{Values};
 ghost use Rattle.semantics.specs.Markings.{at};
 ghost use Rattle.semantics.specs.declared.Mark.TheVariants.{In};
-ghost use Rattle.table.specs.Contents.{program};
-ghost use Rattle.table.specs.Tables.{contents_of};
-ghost use Rattle.table.specs.View.{no_rule};
-ghost use Rattle.std.specs.Prelude.{◌≡◌, length, slice_index_or};
+ghost use Rattle.table.specs.Tables.{nth_rule, program_of, rules_of};
+ghost use Rattle.std.specs.Prelude.{◌≡◌, length};
 
 use super::forcing::{Clash, force_run};
 use marking::Marking;
@@ -21,15 +19,11 @@ pub(crate) fn explain(
     statement: u16,
     rule: usize,
 ) -> Result<(), Clash>
-    ensures {
-        (value : Values)
-        → OneSupport value (contents_of table.now).rules (length (contents_of table.now).rules)
-            marking.old statement rule
+    ensures { (value : Values)
+        → OneSupport value (rules_of table.now) (length (rules_of table.now)) marking.old statement rule
         → at marking.old statement ≡ In
-        → Applied value (program (contents_of table.now)) marking.old marking.new result
-            (Explained marking.old (slice_index_or (contents_of table.now).rules rule no_rule)
-                statement)
-    }
+        → Applied value (program_of table.now) marking.old marking.new result
+        (Explained marking.old (nth_rule table.now rule) statement) }
 {
     let rule = table.rule(rule);
     force_run(table, marking, rule.positive, true, None)?;

@@ -31,14 +31,10 @@ pub(crate) fn force(marking: &mut Marking, literal: Literal) -> Result<(), Clash
 
 // Marks the statement of a literal that is wanted, unless it is the one that is left out.
 fn force_other(marking: &mut Marking, literal: Literal, except: Option<u16>) -> Result<(), Clash>
-    ensures {
-        (value : Values) (p : Program)
-        → (Other except literal.statement
-            → Wanted value p marking.old literal.statement literal.present)
+    ensures { (value : Values) (p : Program)
+        → (Other except literal.statement → Wanted value p marking.old literal.statement literal.present)
         → Applied value p marking.old marking.new result
-            (Other except literal.statement
-                → IsMarked marking.old literal.present literal.statement)
-    }
+        (Other except literal.statement → IsMarked marking.old literal.present literal.statement) }
 {
     if except == Some(literal.statement) {
         Ok(())
@@ -55,14 +51,10 @@ pub(crate) fn force_run(
     present: bool,
     except: Option<u16>,
 ) -> Result<(), Clash>
-    ensures {
-        (value : Values) (p : Program)
-        → EachOther (λ q. Wanted value p marking.old q present) (contents_of table.now).literals
-            run.first run.end except
+    ensures { (value : Values) (p : Program)
+        → EachOther (λ q. Wanted value p marking.old q present) (contents_of table.now).literals run.first run.end except
         → Applied value p marking.old marking.new result
-            (EachOther (IsMarked marking.old present) (contents_of table.now).literals run.first
-                run.end except)
-    }
+        (EachOther (IsMarked marking.old present) (contents_of table.now).literals run.first run.end except) }
 {
     for k in run.first..run.end {
         let statement = table.literal(k);

@@ -2,7 +2,7 @@ ghost use Rattle.std.specs.Prelude.{◌≡◌, ◌<◌, ◌↔◌, IsTrue, lengt
 ghost use Rattle.drawing.specs.Applying.{Applied};
 ghost use Rattle.drawing.specs.Passing.{RulePassed};
 ghost use Rattle.drawing.specs.Sweeps.{AllStanding, Counted, CountedMore, RulesDone};
-ghost use Rattle.judging.specs.Rulebooks.{program_of, rule_of};
+ghost use Rattle.judging.specs.Rulebooks.{program_in, rule_in};
 ghost use Rattle.judging.specs.declared.bodies.Body.TheVariants.{Refuted};
 
 use super::demands::meet;
@@ -30,16 +30,11 @@ fn apply_rule<F: Family>(
     supports: &mut Supports,
     i: usize,
 ) -> Result<(), Clash>
-    ensures applied {
-        i < length (program_of book.now).rules
-        → Applied (F.value book.now.family.now) (program_of book.now) marking.old marking.new result
-            (RulePassed (F.value book.now.family.now) marking.old (rule_of book.now i))
-    }
-    ensures counted {
-        i < length (program_of book.now).rules
-        → CountedMore (F.value book.now.family.now) (program_of book.now).rules i marking.old
-            supports.old.by supports.new.by
-    }
+    ensures applied { i < length (program_in book.now).rules
+        → Applied (F.value book.now.family.now) (program_in book.now) marking.old marking.new result
+        (RulePassed (F.value book.now.family.now) marking.old (rule_in book.now i)) }
+    ensures counted { i < length (program_in book.now).rules
+        → CountedMore (F.value book.now.family.now) (program_in book.now).rules i marking.old supports.old.by supports.new.by }
 {
     let body = book.judge_body(marking, i);
     if is_refuted(body) {
@@ -55,14 +50,9 @@ pub(crate) fn apply_rules<F: Family>(
     marking: &mut Marking,
     supports: &mut Supports,
 ) -> Result<(), Clash>
-    ensures {
-        Counted (F.value book.now.family.now) (program_of book.now).rules 0 marking.old
-            supports.old.by
-        → AllStanding (F.value book.now.family.now) (program_of book.now).rules marking.old
-            supports.old.by
-        → RulesDone (F.value book.now.family.now) (program_of book.now) marking.old marking.new
-            supports.new.by result
-    }
+    ensures { Counted (F.value book.now.family.now) (program_in book.now).rules 0 marking.old supports.old.by
+        → AllStanding (F.value book.now.family.now) (program_in book.now).rules marking.old supports.old.by
+        → RulesDone (F.value book.now.family.now) (program_in book.now) marking.old marking.new supports.new.by result }
 {
     for i in 0..book.table.rules() {
         apply_rule(book, marking, supports, i)?;

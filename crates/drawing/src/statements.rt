@@ -4,8 +4,7 @@ ghost use Rattle.drawing.specs.Passing.{StatementPassed};
 ghost use Rattle.drawing.specs.Supports.{Standing, SupportIs};
 ghost use Rattle.drawing.specs.Sweeps.{Counted, StatementsPassed};
 ghost use Rattle.semantics.specs.Families.{Values};
-ghost use Rattle.table.specs.Contents.{program};
-ghost use Rattle.table.specs.Tables.{contents_of};
+ghost use Rattle.table.specs.Tables.{program_of, rules_of};
 
 use super::explaining::explain;
 use super::forcing::{Clash, force};
@@ -22,14 +21,10 @@ fn apply_statement(
     support: Support,
     statement: u16,
 ) -> Result<(), Clash>
-    ensures {
-        (value : Values)
-        → SupportIs value (contents_of table.now).rules (length (contents_of table.now).rules)
-            marking.old statement support
-        → Applied value (program (contents_of table.now)) marking.old marking.new result
-            (Standing value (contents_of table.now).rules marking.old statement support →
-                StatementPassed value (contents_of table.now).rules marking.old statement)
-    }
+    ensures { (value : Values)
+        → SupportIs value (rules_of table.now) (length (rules_of table.now)) marking.old statement support
+        → Applied value (program_of table.now) marking.old marking.new result
+        (Standing value (rules_of table.now) marking.old statement support → StatementPassed value (rules_of table.now) marking.old statement) }
 {
     match support {
         Support::Unsupported => {
@@ -56,13 +51,10 @@ pub(crate) fn apply_statements(
     marking: &mut Marking,
     supports: &Supports,
 ) -> Result<(), Clash>
-    ensures {
-        (value : Values)
-        → Counted value (contents_of table.now).rules (length (contents_of table.now).rules)
-            marking.old supports.now.by
-        → Applied value (program (contents_of table.now)) marking.old marking.new result
-            (StatementsPassed value (contents_of table.now).rules marking.old supports.now.by)
-    }
+    ensures { (value : Values)
+        → Counted value (rules_of table.now) (length (rules_of table.now)) marking.old supports.now.by
+        → Applied value (program_of table.now) marking.old marking.new result
+        (StatementsPassed value (rules_of table.now) marking.old supports.now.by) }
 {
     for statement in 0..marking.statements() {
         apply_statement(table, marking, supports.of(statement), statement)?;

@@ -56,10 +56,7 @@ impl Supports {
     // Adds a rule to the support of a statement. By the place, and not by `get_mut`: of a slice that was lent so, the kit
     // says nothing once the loan is over.
     fn add_rule(&mut self, statement: u16, rule: usize)
-        ensures {
-            self.new.by ≡ slice_set self.old.by statement
-                (with_rule (supported_by self.old.by statement) rule)
-        }
+        ensures { self.new.by ≡ slice_set self.old.by statement (with_rule (supported_by self.old.by statement) rule) }
     {
         let place = usize::from(statement);
         if place < self.by.len() {
@@ -69,11 +66,9 @@ impl Supports {
 
     // Adds a rule to the support of the statements of its head.
     pub(crate) fn add_heads(&mut self, table: &Table, head: Run, rule: usize)
-        ensures {
-            (qs : List ℕ)
+        ensures { (qs : List ℕ)
             → Covers (contents_of table.now).literals qs head
-            → self.new.by ≡ added self.old.by qs rule
-        }
+            → self.new.by ≡ added self.old.by qs rule }
     {
         for k in (head.first..head.end).rev() {
             self.add_rule(table.literal(k), rule);

@@ -1,6 +1,6 @@
 ghost use Rattle.drawing.specs.Applying.{Applied};
 ghost use Rattle.drawing.specs.Drawings.{DrawsFrom, KeepsAnswers};
-ghost use Rattle.judging.specs.Rulebooks.{program_of};
+ghost use Rattle.judging.specs.Rulebooks.{program_in};
 ghost use Rattle.semantics.specs.Markings.{Settled};
 ghost use Rattle.std.specs.Prelude.{◌≡◌, ◌↔◌, IsTrue};
 
@@ -15,10 +15,8 @@ use marking::Marking;
 // Applies the steps once over all rules and all statements. Its time is linear in the size of the table: each rule is
 // judged once, and explains at most the statements of its head.
 fn sweep<F: Family>(book: &Rulebook<F>, marking: &mut Marking) -> Result<(), Clash>
-    ensures {
-        Applied (F.value book.now.family.now) (program_of book.now) marking.old marking.new result
-            (Settled (F.value book.now.family.now) (program_of book.now).rules marking.old)
-    }
+    ensures { Applied (F.value book.now.family.now) (program_in book.now) marking.old marking.new result
+        (Settled (F.value book.now.family.now) (program_in book.now).rules marking.old) }
 {
     let mut supports = Supports::none();
     apply_rules(book, marking, &mut supports)?;
@@ -35,10 +33,8 @@ fn is_unchanged(before: u16, after: u16) -> bool
 
 // Sweeps until no step has an open statement to mark, or there is a clash.
 pub(crate) fn settle<F: Family>(book: &Rulebook<F>, start: Marking) -> Option<Marking>
-    ensures drawn { DrawsFrom (F.value book.now.family.now) (program_of book.now) start result }
-    ensures answers {
-        KeepsAnswers (F.value book.now.family.now) (program_of book.now) start result
-    }
+    ensures drawn { DrawsFrom (F.value book.now.family.now) (program_in book.now) start result }
+    ensures answers { KeepsAnswers (F.value book.now.family.now) (program_in book.now) start result }
 {
     let mut marking = start;
     loop {

@@ -34,41 +34,31 @@ pub trait Family {
 
     // Adds a sure weight. A weight that the tally does not take leaves it as it was.
     fn add_sure(&self, tally: &mut Self::Tally, weight: i32)
-        ensures added {
-            (k : ℕ) (s o : List ℤ)
+        ensures added { (k : ℕ) (s o : List ℤ)
             → tallies self.now tally.old k s o
             → Takes s o weight
-            → tallies self.now tally.new k (weight ∷ s) o
-        }
-        ensures kept {
-            (k : ℕ) (s o : List ℤ)
+            → tallies self.now tally.new k (weight ∷ s) o }
+        ensures kept { (k : ℕ) (s o : List ℤ)
             → tallies self.now tally.old k s o
             → (Takes s o weight → ⊥)
-            → tally.new ≡ tally.old
-        };
+            → tally.new ≡ tally.old };
 
     // Adds an open weight. A weight that the tally does not take leaves it as it was.
     fn add_open(&self, tally: &mut Self::Tally, weight: i32)
-        ensures added {
-            (k : ℕ) (s o : List ℤ)
+        ensures added { (k : ℕ) (s o : List ℤ)
             → tallies self.now tally.old k s o
             → Takes s o weight
-            → tallies self.now tally.new k s (weight ∷ o)
-        }
-        ensures kept {
-            (k : ℕ) (s o : List ℤ)
+            → tallies self.now tally.new k s (weight ∷ o) }
+        ensures kept { (k : ℕ) (s o : List ℤ)
             → tallies self.now tally.old k s o
             → (Takes s o weight → ⊥)
-            → tally.new ≡ tally.old
-        };
+            → tally.new ≡ tally.old };
 
     // What the bags come to that have every sure weight and some, none or all of the open ones.
     fn read(&self, tally: &Self::Tally) -> Reading
-        ensures {
-            (k : ℕ) (s o : List ℤ)
+        ensures { (k : ℕ) (s o : List ℤ)
             → tallies self.now tally.now k s o
-            → Reads (value self.now k) s o result
-        };
+            → Reads (value self.now k) s o result };
 
     // There are at most 256 kinds, the order of a bag never matters, a kind that is lacking makes nothing of any bag,
     // and numbers are within 1,000,000,000,000 of zero.

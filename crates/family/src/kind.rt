@@ -37,12 +37,10 @@ pub trait Kind: TryFrom<u8, Error = LackingKind> + Copy {
 
     // What the bags come to that have every sure weight and some, none or all of the open ones.
     fn read(self, sure: &Bag, opens: &Bag) -> Reading
-        ensures {
-            (s o : List ℤ)
+        ensures { (s o : List ℤ)
             → Keeps sure.now s
             → Keeps opens.now o
-            → Reads (value (number self)) s o result
-        };
+            → Reads (value (number self)) s o result };
 
     // A number turns into the kind that has it, or is past those of all kinds.
     ghost numbers: { AreNumbers number COUNT Self.try_from_gives };

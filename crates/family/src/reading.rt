@@ -98,10 +98,8 @@ impl Reading {
     // Certain where a number is reached, nothing is not, and every number from the least to the greatest stands in the
     // relation to the bound; impossible where none does, or no number is reached.
     pub fn judge(self, relation: Relation, bound: i64) -> Verdict
-        ensures {
-            Ordered self
-            → Judges result (SaysCertain self relation bound) (SaysImpossible self relation bound)
-        }
+        ensures { Ordered self
+            → Judges result (SaysCertain self relation bound) (SaysImpossible self relation bound) }
     {
         match self.numbers {
             None => Verdict::Impossible,

@@ -42,18 +42,14 @@ impl<K: TryFrom<u8, Error = LackingKind> + Copy> Tally<K> {
 
     // Adds a sure weight. A weight that the tally does not take leaves it as it was.
     pub fn add_sure(&mut self, weight: i32)
-        ensures added {
-            (k : ℕ) (s o : List ℤ)
+        ensures added { (k : ℕ) (s o : List ℤ)
             → Tallies K.try_from_gives self.old k s o
             → Takes s o weight
-            → Tallies K.try_from_gives self.new k (weight ∷ s) o
-        }
-        ensures kept {
-            (k : ℕ) (s o : List ℤ)
+            → Tallies K.try_from_gives self.new k (weight ∷ s) o }
+        ensures kept { (k : ℕ) (s o : List ℤ)
             → Tallies K.try_from_gives self.old k s o
             → (Takes s o weight → ⊥)
-            → self.new ≡ self.old
-        }
+            → self.new ≡ self.old }
     {
         if takes(self.sure.count + self.open.count, weight) {
             self.sure.put(i64::from(weight));
@@ -62,18 +58,14 @@ impl<K: TryFrom<u8, Error = LackingKind> + Copy> Tally<K> {
 
     // Adds an open weight. A weight that the tally does not take leaves it as it was.
     pub fn add_open(&mut self, weight: i32)
-        ensures added {
-            (k : ℕ) (s o : List ℤ)
+        ensures added { (k : ℕ) (s o : List ℤ)
             → Tallies K.try_from_gives self.old k s o
             → Takes s o weight
-            → Tallies K.try_from_gives self.new k s (weight ∷ o)
-        }
-        ensures kept {
-            (k : ℕ) (s o : List ℤ)
+            → Tallies K.try_from_gives self.new k s (weight ∷ o) }
+        ensures kept { (k : ℕ) (s o : List ℤ)
             → Tallies K.try_from_gives self.old k s o
             → (Takes s o weight → ⊥)
-            → self.new ≡ self.old
-        }
+            → self.new ≡ self.old }
     {
         if takes(self.sure.count + self.open.count, weight) {
             self.open.put(i64::from(weight));

@@ -9,11 +9,7 @@ use refusal::Fault;
 
 // The record before record i of an area; the first has none.
 pub(crate) fn record_before(area: Area, bytes: &[u8], i: u16) -> Option<Record<'_>>
-    ensures {
-        MatchOption result (i ≡ 0)
-            (λ r. (k : ℕ) × (i ≡ suc k) × (r.bytes.now ≡ bytes.now)
-                × (r.at ≡ offset bytes.now area + size area * k))
-    }
+    ensures { MatchOption result (i ≡ 0) (λ r. (k : ℕ) × (i ≡ suc k) × (r.bytes.now ≡ bytes.now) × (r.at ≡ offset bytes.now area + size area * k)) }
 {
     i.checked_sub(1)
         .map(|before| area.record(bytes, u32::from(before)))

@@ -16,9 +16,7 @@ use table::table::Table;
 
 // What was drawn, one statement a line, or that there is a clash.
 fn drawing_text(heap: Global, table: &Table, drawing: Option<Marking>) -> Result<String, AllocError>
-    ensures {
-        IfOk result (λ s. string_bytes s ≡ drawing_text (contents_of table.now).names drawing)
-    }
+    ensures { IfOk result (λ s. string_bytes s ≡ drawing_text (contents_of table.now).names drawing) }
 {
     match drawing {
         Some(marking) => marks_text(heap, table, &marking),

@@ -34,11 +34,9 @@ pub(crate) fn both(all: Verdict, next: Verdict) -> Verdict
 
 // What a marking says of the positive and the negative statements of a rule.
 pub(crate) fn body_literals(table: &Table, marking: &Marking, rule: RuleView) -> Literals
-    ensures {
-        (g : Rule)
+    ensures { (g : Rule)
         → ShowsRule (contents_of table.now) g rule
-        → LiteralsAre marking.now (body_literals g) result
-    }
+        → LiteralsAre marking.now (body_literals g) result }
 {
     let negatives = judge_literals(table, marking, rule.negative, false, Literals::Met);
     judge_literals(table, marking, rule.positive, true, negatives)

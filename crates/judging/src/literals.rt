@@ -1,10 +1,10 @@
-ghost use Rattle.std.specs.Prelude.{◌≡◌, ℕ, false, List, ◌∷◌, ◌++◌, slice_index_or};
+ghost use Rattle.std.specs.Prelude.{◌≡◌, ℕ, false, List, ◌∷◌, ◌++◌};
 ghost use Rattle.judging.specs.Literals.{LiteralsAre, as_literals};
 ghost use Rattle.judging.specs.declared.literals.Literal.{Literal};
 ghost use Rattle.semantics.specs.Markings.{at};
 ghost use Rattle.semantics.specs.declared.Mark.{Mark};
-ghost use Rattle.table.specs.Tables.{contents_of};
-ghost use Rattle.table.specs.View.{Covers, no_rule};
+ghost use Rattle.table.specs.Tables.{contents_of, nth_rule};
+ghost use Rattle.table.specs.View.{Covers};
 
 use marking::Marking;
 use semantics::Mark;
@@ -31,12 +31,10 @@ pub enum Literals {
 impl Literals {
     // With an open literal more.
     fn and_open(self, literal: Literal) -> Literals
-        ensures {
-            (m : List Mark) (ls : List Literal)
+        ensures { (m : List Mark) (ls : List Literal)
             → Mark.Open ≡ at m literal.statement
             → LiteralsAre m ls self
-            → LiteralsAre m (literal ∷ ls) result
-        }
+            → LiteralsAre m (literal ∷ ls) result }
     {
         match self {
             Literals::Met => Literals::OneOpen(literal),
@@ -48,12 +46,10 @@ impl Literals {
 
     // With a literal more, whose statement has this mark.
     fn and(self, literal: Literal, mark: Mark) -> Literals
-        ensures {
-            (m : List Mark) (ls : List Literal)
+        ensures { (m : List Mark) (ls : List Literal)
             → mark ≡ at m literal.statement
             → LiteralsAre m ls self
-            → LiteralsAre m (literal ∷ ls) result
-        }
+            → LiteralsAre m (literal ∷ ls) result }
     {
         if mark == Mark::Open {
             self.and_open(literal)
@@ -73,12 +69,10 @@ pub(crate) fn judge_literals(
     present: bool,
     before: Literals,
 ) -> Literals
-    ensures {
-        (qs : List ℕ) (ls : List Literal)
+    ensures { (qs : List ℕ) (ls : List Literal)
         → Covers (contents_of table.now).literals qs run
         → LiteralsAre marking.now ls before
-        → LiteralsAre marking.now (as_literals present qs ++ ls) result
-    }
+        → LiteralsAre marking.now (as_literals present qs ++ ls) result }
 {
     let mut all = before;
     for k in (run.first..run.end).rev() {
@@ -90,10 +84,7 @@ pub(crate) fn judge_literals(
 
 // What a marking says of the head of rule i, that its statements be out. It asks no family, and so no rulebook.
 pub fn judge_head(table: &Table, marking: &Marking, i: usize) -> Literals
-    ensures {
-        LiteralsAre marking.now
-            (as_literals false (slice_index_or (contents_of table.now).rules i no_rule).head) result
-    }
+    ensures { LiteralsAre marking.now (as_literals false (nth_rule table.now i).head) result }
 {
     judge_literals(table, marking, table.rule(i).head, false, Literals::Met)
 }

@@ -21,18 +21,15 @@ pub struct Rulebook<'a, F> {
 }
 
 impl<'a, F: Family> Rulebook<'a, F> {
-    ghost use Rattle.judging.specs.Rulebooks.{aggregate_of, contents_in, rule_of};
+    ghost use Rattle.judging.specs.Rulebooks.{aggregate_in, contents_in, rule_in};
 
     // The tally of a kind over the members of a set: sure weights of those that are in, open weights of those that are
     // open.
     fn filled(&self, marking: &Marking, kind: u8, members: Run) -> F::Tally
-        ensures {
-            (ms : List Member)
+        ensures { (ms : List Member)
             → Covers (contents_in self.now).members ms members
             → members.end - members.first ≤ 128
-            → F.tallies self.now.family.now result kind (sure_weights marking.now ms)
-                (open_weights marking.now ms)
-        }
+            → F.tallies self.now.family.now result kind (sure_weights marking.now ms) (open_weights marking.now ms) }
     {
         let mut tally = self.family.start(kind);
         for k in (members.first..members.end).rev() {
@@ -45,9 +42,7 @@ impl<'a, F: Family> Rulebook<'a, F> {
 
     // Whether aggregate j is certain under the marking, or impossible.
     pub fn judge_aggregate(&self, marking: &Marking, j: usize) -> Verdict
-        ensures {
-            AggregateIs (F.value self.now.family.now) marking.now (aggregate_of self.now j) result
-        }
+        ensures { AggregateIs (F.value self.now.family.now) marking.now (aggregate_in self.now j) result }
     {
         let aggregate = self.table.aggregate(j);
         let tally = self.filled(marking, aggregate.kind, aggregate.members);
@@ -58,11 +53,9 @@ impl<'a, F: Family> Rulebook<'a, F> {
 
     // Whether all aggregates of a run are certain, or one is impossible.
     fn judge_aggregates(&self, marking: &Marking, run: Run) -> Verdict
-        ensures {
-            (gs : List Aggregate)
+        ensures { (gs : List Aggregate)
             → Covers (contents_in self.now).aggregates gs run
-            → AggregatesAre (F.value self.now.family.now) marking.now gs result
-        }
+            → AggregatesAre (F.value self.now.family.now) marking.now gs result }
     {
         let mut all = Verdict::Certain;
         for j in (run.first..run.end).rev() {
@@ -75,7 +68,7 @@ impl<'a, F: Family> Rulebook<'a, F> {
 
     // What a marking says of the body of rule i.
     pub fn judge_body(&self, marking: &Marking, i: usize) -> Body
-        ensures { BodyIs (F.value self.now.family.now) marking.now (rule_of self.now i) result }
+        ensures { BodyIs (F.value self.now.family.now) marking.now (rule_in self.now i) result }
     {
         let rule = self.table.rule(i);
         let literals = body_literals(self.table, marking, rule);

@@ -13,9 +13,7 @@ use table::table::Table;
 // Refuses the first aggregate of the table whose kind the family lacks, at the place of that kind.
 pub fn check_kinds<F: Family>(table: &Table, family: &F) -> Result<(), Fault>
     ensures first { result ≡ verdict (lacking (F.size family.now) table.now.bytes.now) tt }
-    ensures known {
-        IsOk result ↔ KindsKnown (F.size family.now) (contents_of table.now).aggregates
-    }
+    ensures known { IsOk result ↔ KindsKnown (F.size family.now) (contents_of table.now).aggregates }
 {
     let kinds = family.kinds();
     for j in 0..table.aggregates() {

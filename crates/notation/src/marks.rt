@@ -29,9 +29,7 @@ impl fmt::Display for Marks<'_> {
 
 // What is known of each statement of the table, one a line. Those that the marking lacks are open.
 pub fn marks_text(heap: Global, table: &Table, marking: &Marking) -> Result<String, AllocError>
-    ensures {
-        IfOk result (λ s. string_bytes s ≡ marks_text (contents_of table.now).names marking.now)
-    }
+    ensures { IfOk result (λ s. string_bytes s ≡ marks_text (contents_of table.now).names marking.now) }
 {
     let table = *table;
     Marks { table, marking }.to_string(heap)

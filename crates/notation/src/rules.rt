@@ -1,9 +1,8 @@
 ghost use Rattle.notation.specs.Pieces.{aggregate_piece, body_run, literal_piece, member_piece, places, premise_pieces};
 ghost use Rattle.notation.specs.Text.{joined, rule_text, sign_text};
 ghost use Rattle.std.specs.Fmt.{signed_decimal};
-ghost use Rattle.std.specs.Prelude.{◌≡◌, ◌++◌, IfOk, Some, codes, if◌then◌else◌, slice_index_or, string_bytes};
-ghost use Rattle.table.specs.Tables.{contents_of};
-ghost use Rattle.table.specs.View.{no_rule};
+ghost use Rattle.std.specs.Prelude.{◌≡◌, ◌++◌, IfOk, Some, codes, if◌then◌else◌, string_bytes};
+ghost use Rattle.table.specs.Tables.{contents_of, nth_rule};
 
 use super::pieces::{Joined, Pieces, is_empty, sign_between};
 use super::words::Kind;
@@ -134,9 +133,7 @@ fn body(rule: RuleView) -> Run
 }
 
 fn sign(rule: RuleView) -> &'static str
-    ensures {
-        result.now ≡ sign_text (places rule.head) (places (body_run rule) ++ places rule.aggregates)
-    }
+    ensures { result.now ≡ sign_text (places rule.head) (places (body_run rule) ++ places rule.aggregates) }
 {
     if is_empty(rule.head) {
         return ":- ";
@@ -156,9 +153,7 @@ struct Premises<'a> {
 }
 
 impl fmt::Display for Premises<'_> {
-    ghost output = {
-        λ p. Some (joined (codes ", ") (premise_pieces (contents_of p.table) p.rule))
-    };
+    ghost output = { λ p. Some (joined (codes ", ") (premise_pieces (contents_of p.table) p.rule)) };
 
     fn fmt<W: fmt::Write>(&self, f: &mut fmt::Formatter<W>) -> fmt::Result {
         let body = body(self.rule);
@@ -188,11 +183,7 @@ pub(crate) struct Rule<'a> {
 }
 
 impl fmt::Display for Rule<'_> {
-    ghost output = {
-        λ r. Some
-            (rule_text (contents_of r.table).names
-                (slice_index_or (contents_of r.table).rules r.i no_rule))
-    };
+    ghost output = { λ r. Some (rule_text (contents_of r.table).names (nth_rule r.table r.i)) };
 
     fn fmt<W: fmt::Write>(&self, f: &mut fmt::Formatter<W>) -> fmt::Result {
         let rule = self.table.rule(self.i);
@@ -215,12 +206,7 @@ impl fmt::Display for Rule<'_> {
 
 // Rule i of the table; past the last one, a rule with nothing in it.
 pub fn rule_text(heap: Global, table: &Table, i: usize) -> Result<String, AllocError>
-    ensures {
-        IfOk result
-            (λ s. string_bytes s
-                ≡ rule_text (contents_of table.now).names
-                    (slice_index_or (contents_of table.now).rules i no_rule))
-    }
+    ensures { IfOk result (λ s. string_bytes s ≡ rule_text (contents_of table.now).names (nth_rule table.now i)) }
 {
     let rule = Rule { table: *table, i };
     rule.to_string(heap)

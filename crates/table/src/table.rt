@@ -3,7 +3,7 @@ ghost use Rattle.format.specs.Faults.{verdict};
 ghost use Rattle.layout.specs.Bytes.{byte_at};
 ghost use Rattle.std.specs.Prelude.{◌≡◌, ◌<◌, ◌^◌, true, [], is_ok, length, slice_index, slice_index_or};
 ghost use Rattle.table.specs.Limits.{MemberLimits, OnlyBytes, WithinLimits, how_many};
-ghost use Rattle.table.specs.View.{ShowsAggregate, ShowsRecord, ShowsRule, aggregate_read, count_held, kind_place, member_read, name_read, no_aggregate, no_member, no_rule, rule_read, run};
+ghost use Rattle.table.specs.View.{ShowsAggregate, ShowsRecord, ShowsRule, aggregate_read, count_held, kind_place, member_read, name_read, no_member, rule_read, run};
 
 use format::check::{Counts, check};
 use layout::area::Area;
@@ -142,7 +142,7 @@ fn read_name(name: Record<'_>) -> &[u8]
 
 // Reading. What a table lacks, and all that an unopened one would have, reads as empty.
 impl<'a> Table<'a> {
-    ghost use Rattle.table.specs.Tables.{contents_of};
+    ghost use Rattle.table.specs.Tables.{contents_of, nth_aggregate, nth_rule};
 
     // Opens the bytes where the check accepts them. What an opened table stands for is within the limits of the
     // format, and no other bytes stand for the same rules and names.
@@ -222,10 +222,7 @@ impl<'a> Table<'a> {
 
     // Rule i; past the last one, a rule with nothing in it.
     pub fn rule(&self, i: usize) -> RuleView
-        ensures {
-            ShowsRule (contents_of self.now) (slice_index_or (contents_of self.now).rules i no_rule)
-                result
-        }
+        ensures { ShowsRule (contents_of self.now) (nth_rule self.now i) result }
     {
         self.record(Area::Rules, i).map_or(NO_RULE, RuleView::from)
     }
@@ -233,20 +230,15 @@ impl<'a> Table<'a> {
     // The statement at place k of the literals; past the last one, 0.
     pub fn literal(&self, k: usize) -> u16
         ensures value { result ≡ slice_index (contents_of self.now).literals k }
-        ensures known {
-            k < length (contents_of self.now).literals
-            → result < length (contents_of self.now).names
-        }
+        ensures known { k < length (contents_of self.now).literals
+            → result < length (contents_of self.now).names }
     {
         self.record(Area::Literals, k).map_or(0, read_literal)
     }
 
     // Aggregate j; past the last one, one with nothing in it.
     pub fn aggregate(&self, j: usize) -> AggregateView
-        ensures {
-            ShowsAggregate (contents_of self.now)
-                (slice_index_or (contents_of self.now).aggregates j no_aggregate) result
-        }
+        ensures { ShowsAggregate (contents_of self.now) (nth_aggregate self.now j) result }
     {
         self.record(Area::Aggregates, j)
             .map_or(NO_AGGREGATE, AggregateView::from)
@@ -263,10 +255,8 @@ impl<'a> Table<'a> {
     // The member at place k of the members; past the last one, statement 0 with weight 0.
     pub fn member(&self, k: usize) -> Member
         ensures value { result ≡ slice_index_or (contents_of self.now).members k no_member }
-        ensures limits {
-            k < length (contents_of self.now).members
-            → MemberLimits (length (contents_of self.now).names) result
-        }
+        ensures limits { k < length (contents_of self.now).members
+            → MemberLimits (length (contents_of self.now).names) result }
     {
         self.record(Area::Members, k).map_or(NO_MEMBER, read_member)
     }

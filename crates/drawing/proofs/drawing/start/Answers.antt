@@ -5,11 +5,11 @@ use Rattle.semantics.specs.Markings.{Agrees, found, noted}
 use Rattle.std.specs.List.{range_with_len}
 use Rattle.table.proofs.Limits.{names_few}
 use Rattle.table.specs.Contents.{program}
-use Rattle.table.specs.Tables.{contents_of}
+use Rattle.table.specs.Tables.{program_of}
 
 pub returns : goal.returns
 returns c =
-    let p = program (contents_of c.args.table.now) in
+    let p = program_of c.args.table.now in
     let few = names_few c.args.table.now.bytes.now in
     let all : min c.statements.result 128 ≡ p.statements = omega (arith, c.statements.ensures) in
     let e : c.noted.result ≡ noted p c.args.findings.now = c.noted.ensures ∙ ap (λ n. map (found c.args.findings.now) (range_with_len 0 n)) all in

@@ -2,7 +2,7 @@ use Rattle.drawing.proofs.Applying.{applied_none}
 use Rattle.drawing.proofs.Demanding.{body_standing, demanded, refuted_passed}
 use Rattle.drawing.proofs.Passes.{counted_refuted, counted_standing}
 use Rattle.drawing.proofs.rules.apply_rule.Goals as goal
-use Rattle.judging.specs.Rulebooks.{program_of, rule_of}
+use Rattle.judging.specs.Rulebooks.{program_in, rule_in}
 use Rattle.judging.specs.declared.bodies.Body.TheVariants.{Refuted}
 use Rattle.semantics.proofs.Lists.{among_at}
 use Rattle.table.specs.View.{no_rule}
@@ -11,7 +11,7 @@ use Rattle.std.proofs.Common.{◌≡◌, rules}
 pub returns-then-is_refuted : goal.returns-then-is_refuted
 returns-then-is_refuted g c =
     let value = g.F.Family.value c.args.book.now.family.now in
-    let p = program_of c.args.book.now in
+    let p = program_in c.args.book.now in
     let m = c.args.marking.now in
     let refuted : c.judge_body-body.result ≡ Refuted = search rules in
     let f = rw refuted at c.judge_body-body.ensures in
@@ -23,9 +23,9 @@ returns-then-is_refuted g c =
 pub returns : goal.returns
 returns g c =
     let value = g.F.Family.value c.args.book.now.family.now in
-    let p = program_of c.args.book.now in
+    let p = program_in c.args.book.now in
     let m = c.args.marking.now in
-    let r = rule_of c.args.book.now c.args.i in
+    let r = rule_in c.args.book.now c.args.i in
     let body = c.judge_body-body.result in
     let other : body ≡ Refuted → ⊥ = search rules in
     record {

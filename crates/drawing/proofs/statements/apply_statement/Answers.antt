@@ -4,12 +4,12 @@ use Rattle.drawing.proofs.statements.apply_statement.Goals as goal
 use Rattle.semantics.specs.Markings.{at}
 use Rattle.semantics.specs.declared.Mark.TheVariants.{In}
 use Rattle.table.specs.Contents.{program}
-use Rattle.table.specs.Tables.{contents_of}
+use Rattle.table.specs.Tables.{program_of}
 use Rattle.std.proofs.Common.{◌≡◌, false, rules}
 
 pub returns-in-Unsupported : goal.returns-in-Unsupported
 returns-in-Unsupported c = λ value h.
-    let p = program (contents_of c.args.table.now) in
+    let p = program_of c.args.table.now in
     let m = c.args.marking.now in
     let none = rw c.in-Unsupported.is at h in
     applied_weaker value p m _ _ _ c.force.result (λ t s. none_passed value p.rules m c.args.statement none t)
@@ -17,7 +17,7 @@ returns-in-Unsupported c = λ value h.
 
 pub returns-then-eq : goal.returns-then-eq
 returns-then-eq c = λ value h.
-    let p = program (contents_of c.args.table.now) in
+    let p = program_of c.args.table.now in
     let m = c.args.marking.now in
     let i = c.in-OneRule.is in
     let one = rw i at h in
@@ -27,7 +27,7 @@ returns-then-eq c = λ value h.
 
 pub returns-else-eq : goal.returns-else-eq
 returns-else-eq c = λ value h.
-    let p = program (contents_of c.args.table.now) in
+    let p = program_of c.args.table.now in
     let m = c.args.marking.now in
     let i = c.in-OneRule.is in
     let without : at m c.args.statement ≡ In → ⊥ = search rules in
@@ -35,6 +35,6 @@ returns-else-eq c = λ value h.
 
 pub returns-in-ManyRules : goal.returns-in-ManyRules
 returns-in-ManyRules c = λ value h.
-    let p = program (contents_of c.args.table.now) in
+    let p = program_of c.args.table.now in
     let m = c.args.marking.now in
     applied_none value p m _ (λ s. many_passed value p.rules m c.args.statement (rw c.in-ManyRules.is at s))

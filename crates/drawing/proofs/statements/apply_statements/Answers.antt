@@ -4,14 +4,14 @@ use Rattle.drawing.proofs.Passes.{statements_next, support_there}
 use Rattle.drawing.proofs.statements.apply_statements.Goals as goal
 use Rattle.std.proofs.Common.{Ok, arith}
 use Rattle.table.specs.Contents.{program}
-use Rattle.table.specs.Tables.{contents_of}
+use Rattle.table.specs.Tables.{program_of}
 
 pub loop-statement-init : goal.loop-statement-init
 loop-statement-init c = λ value counted. (derived_same value _ _, λ e s q l. absurd (omega arith))
 
 pub returns-in_err-apply_statement : goal.returns-in_err-apply_statement
 returns-in_err-apply_statement c = λ value counted.
-    let p = program (contents_of c.args.table.now) in
+    let p = program_of c.args.table.now in
     let by = c.args.supports.now.by in
     let long = c.args.supports.now.long in
     let few = c.statements-statement-end.ensures.few in
@@ -22,7 +22,7 @@ returns-in_err-apply_statement c = λ value counted.
 
 pub loop-statement-preserved : goal.loop-statement-preserved
 loop-statement-preserved c = λ value counted.
-    let p = program (contents_of c.args.table.now) in
+    let p = program_of c.args.table.now in
     let by = c.args.supports.now.by in
     let long = c.args.supports.now.long in
     let few = c.statements-statement-end.ensures.few in

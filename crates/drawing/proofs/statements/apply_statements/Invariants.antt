@@ -5,11 +5,11 @@ use Rattle.drawing.specs.Passing.{StatementPassed}
 use Rattle.drawing.specs.Sweeps.{AllStanding, Counted}
 use Rattle.semantics.specs.Families.{Values}
 use Rattle.table.specs.Contents.{program}
-use Rattle.table.specs.Tables.{contents_of}
+use Rattle.table.specs.Tables.{program_of, rules_of}
 
 -- the statements before this one are done
 abbrev pub invariant-loop-statement : goal.invariant-loop-statement
 invariant-loop-statement l =
-    (value : Values) → Counted value (contents_of l.table).rules (length (contents_of l.table).rules) l.initial.marking l.supports.by
-    → Derived value (program (contents_of l.table)) l.initial.marking l.marking
-    × (l.marking ≡ l.initial.marking → AllStanding value (contents_of l.table).rules l.initial.marking l.supports.by → (q : ℕ) → q < l.statement → StatementPassed value (contents_of l.table).rules l.initial.marking q)
+    (value : Values) → Counted value (rules_of l.table) (length (rules_of l.table)) l.initial.marking l.supports.by
+    → Derived value (program_of l.table) l.initial.marking l.marking
+    × (l.marking ≡ l.initial.marking → AllStanding value (rules_of l.table) l.initial.marking l.supports.by → (q : ℕ) → q < l.statement → StatementPassed value (rules_of l.table) l.initial.marking q)
