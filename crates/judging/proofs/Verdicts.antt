@@ -1,6 +1,6 @@
 -- What a reading says of an aggregate is so under the marking.
 use Rattle.family.specs.Bags.{Reached}
-use Rattle.family.specs.Readings.{Extremes, Judges, Ordered, Reads, SaysCertain, SaysImpossible, Within}
+use Rattle.family.specs.Readings.{AllStand, Extremes, Judges, NoneStands, Ordered, Reads, SaysCertain, SaysImpossible, Within}
 use Rattle.family.specs.declared.reading.Reading.{Reading}
 use Rattle.family.specs.declared.reading.Span.{Span}
 use Rattle.family.specs.declared.reading.Verdict.{Verdict}
@@ -13,7 +13,7 @@ use Rattle.semantics.specs.Programs.{Aggregate, stands}
 use Rattle.semantics.specs.declared.Mark.{Mark}
 use Rattle.std.proofs.lemmas.Int.{ints}
 use Rattle.std.proofs.lemmas.Bool.{both_ways, cases_Bool}
-use Rattle.std.proofs.Common.{◌≡◌, ℕ, true, false, List, ℤ, ◌≤ℤ◌, IfSome, Some, None, Option, ⊎_elim, arith, MatchOption}
+use Rattle.std.proofs.Common.{◌≡◌, ℕ, false, List, ℤ, ◌≤ℤ◌, IfSome, Some, None, Option, ⊎_elim, arith, MatchOption}
 
 le_trans : (a b c : ℤ) → a ≤ℤ b → b ≤ℤ c → a ≤ℤ c
 le_trans a b c p q = omega (arith, ints)
@@ -27,6 +27,10 @@ judges_same Neither C I D J f g h k (n, o) = ((λ d. n (g d)), λ j. o (k j))
 module _ {kinds : ℕ} (value : Values) (lawful : Lawful kinds value) (m : List Mark) (g : Aggregate) where
   abbrev Reach : Option ℤ → Type 0
   Reach = Reached (value g.kind) (sure_weights m g.members) (open_weights m g.members)
+
+  -- the extremes of the numbers that are reached, or that none is
+  abbrev Numbers : Option Span → Type 0
+  Numbers o = MatchOption o ((z : ℤ) → Reach (Some z) → ⊥) (Extremes (λ z. Reach (Some z)))
 
   into_marking : (r : Option ℤ) → Reach r → Attained value m g r
   into_marking = attained value lawful.family.unordered m g
@@ -42,7 +46,7 @@ module _ {kinds : ℕ} (value : Values) (lawful : Lawful kinds value) (m : List 
   between_within s x z (l, h, p, q, lo, hi) =
       (le_trans _ l z (x.all l (from_marking (Some l) p)).0 lo, le_trans z h _ hi (x.all h (from_marking (Some h) q)).1)
 
-  ordered : (o : Option Span) → MatchOption o ((z : ℤ) → Reach (Some z) → ⊥) (Extremes (λ z. Reach (Some z))) → IfSome o (λ s. s.least ≤ℤ s.greatest)
+  ordered : (o : Option Span) → Numbers o → IfSome o (λ s. s.least ≤ℤ s.greatest)
   ordered None h = tt
   ordered (Some s) x = (x.all s.least x.least).1
 
@@ -53,7 +57,7 @@ module _ {kinds : ℕ} (value : Values) (lawful : Lawful kinds value) (m : List 
     certain_so : SaysCertain r g.relation g.bound → Certain value m g
     certain_so c = go r.numbers h.numbers c.stand
       where
-        go : (o : Option Span) → MatchOption o ((z : ℤ) → Reach (Some z) → ⊥) (Extremes (λ z. Reach (Some z))) → MatchOption o ⊥ (λ s. (z : ℤ) → Within s z → stands g.relation z g.bound ≡ true) → Certain value m g
+        go : (o : Option Span) → Numbers o → MatchOption o ⊥ (λ s. AllStand s g.relation g.bound) → Certain value m g
         go None x a = absurd a
         go (Some s) x a = record {
           number = (s.least, into_marking _ x.least);
@@ -67,21 +71,21 @@ module _ {kinds : ℕ} (value : Values) (lawful : Lawful kinds value) (m : List 
       stand = go r.numbers h.numbers;
     }
       where
-        go : (o : Option Span) → MatchOption o ((z : ℤ) → Reach (Some z) → ⊥) (Extremes (λ z. Reach (Some z))) → MatchOption o ⊥ (λ s. (z : ℤ) → Within s z → stands g.relation z g.bound ≡ true)
+        go : (o : Option Span) → Numbers o → MatchOption o ⊥ (λ s. AllStand s g.relation g.bound)
         go None x = x c.number.0 (from_marking _ c.number.1)
         go (Some s) x = λ z w. c.within z (within_between s x z w)
 
     impossible_so : SaysImpossible r g.relation g.bound → Impossible value m g
     impossible_so c z b = go r.numbers h.numbers c
       where
-        go : (o : Option Span) → MatchOption o ((z : ℤ) → Reach (Some z) → ⊥) (Extremes (λ z. Reach (Some z))) → IfSome o (λ s. (z : ℤ) → Within s z → stands g.relation z g.bound ≡ false) → stands g.relation z g.bound ≡ false
+        go : (o : Option Span) → Numbers o → IfSome o (λ s. NoneStands s g.relation g.bound) → stands g.relation z g.bound ≡ false
         go None x a = absurd (x b.0 (from_marking _ b.2))
         go (Some s) x a = a z (between_within s x z b)
 
     so_impossible : Impossible value m g → SaysImpossible r g.relation g.bound
     so_impossible c = go r.numbers h.numbers
       where
-        go : (o : Option Span) → MatchOption o ((z : ℤ) → Reach (Some z) → ⊥) (Extremes (λ z. Reach (Some z))) → IfSome o (λ s. (z : ℤ) → Within s z → stands g.relation z g.bound ≡ false)
+        go : (o : Option Span) → Numbers o → IfSome o (λ s. NoneStands s g.relation g.bound)
         go None x = tt
         go (Some s) x = λ z w. c z (within_between s x z w)
 
