@@ -7,7 +7,7 @@ ghost use Rattle.semantics.specs.Families.{bench};
 ghost use Rattle.semantics.proofs.Families.{bench_lawful};
 
 use super::kind::BenchKind;
-use family::{Bag, Kind, Reading, Span};
+use family::{Summary, Kind, Reading, Span};
 
 // How far the greatest is from the least.
 fn width(span: Span) -> i64
@@ -19,7 +19,7 @@ fn width(span: Span) -> i64
 
 // With no open weight the spread is least, and with all of them greatest. With no sure weight the spread of one open
 // weight is least, and that of none is nothing.
-fn spreads(sure: &Bag, opens: &Bag) -> Reading
+fn spreads(sure: &Summary, opens: &Summary) -> Reading
     ensures { (s o : List ℤ) → Keeps sure.now s → Keeps opens.now o → Reads (bench 0) s o result }
 {
     match (sure.extremes, opens.extremes) {
@@ -36,7 +36,7 @@ fn spreads(sure: &Bag, opens: &Bag) -> Reading
 }
 
 // 1 where there is an odd number of weights, and 0 where not. An open weight makes both possible.
-fn odds(sure: &Bag, opens: &Bag) -> Span
+fn odds(sure: &Summary, opens: &Summary) -> Span
     ensures some { 0 < opens.now.count → (result.least ≡ pos 0) × (result.greatest ≡ pos 1) }
     ensures none { opens.now.count ≡ 0
         → (result.least ≡ pos (sure.now.count % 2)) × (result.greatest ≡ pos (sure.now.count % 2)) }
@@ -68,7 +68,7 @@ impl Kind for BenchKind {
 
     ghost lawful = { bench_lawful };
 
-    fn read(self, sure: &Bag, opens: &Bag) -> Reading {
+    fn read(self, sure: &Summary, opens: &Summary) -> Reading {
         match self {
             BenchKind::Spread => spreads(sure, opens),
             BenchKind::Odd => Reading::only_numbers(odds(sure, opens)),

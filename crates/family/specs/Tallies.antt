@@ -1,7 +1,7 @@
 -- The bags that a tally stands for.
 use Rattle.family.specs.Spans.{Spans}
 use Rattle.family.specs.Sums.{above_zero, below_zero, sum_by}
-use Rattle.family.specs.declared.bag.Bag.{Bag}
+use Rattle.family.specs.declared.summary.Summary.{Summary}
 use Rattle.family.specs.declared.kind.LackingKind.{LackingKind}
 use Rattle.family.specs.declared.tally.Tally.{Tally}
 use Rattle.std.specs.Prelude.{◌≡◌, ℕ, ◌≤◌, List, length, ℤ, Option, Result, MatchResult}
@@ -19,12 +19,12 @@ AreNumbers {K} number kinds gives = (k : ℕ) (r : Result K LackingKind) → giv
 abbrev pub Numbered : {K : Type 0} → (ℕ → Result K LackingKind → Type 0) → Option K → ℕ → Type 0
 Numbered {K} gives kind k = (r : Result K LackingKind) × gives k r × (result_ok r ≡ kind)
 
--- what is kept has the numbers of this bag
-pub record Keeps (b : Bag) (v : List ℤ) : Type 0 where
-  pub count : b.count ≡ length v
-  pub below : b.below ≡ sum_by below_zero v
-  pub above : b.above ≡ sum_by above_zero v
-  pub extremes : Spans b.extremes v
+-- the summary has the numbers of this bag
+pub record Keeps (k : Summary) (v : List ℤ) : Type 0 where
+  pub count : k.count ≡ length v
+  pub below : k.below ≡ sum_by below_zero v
+  pub above : k.above ≡ sum_by above_zero v
+  pub extremes : Spans k.extremes v
 
 -- the tally is of this kind and has the numbers of these bags
 pub record Tallies {K : Type 0} (gives : ℕ → Result K LackingKind → Type 0) (t : Tally K) (k : ℕ) (s o : List ℤ) : Type 0 where

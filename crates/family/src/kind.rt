@@ -3,8 +3,8 @@ ghost use Rattle.family.specs.Readings.{Reads};
 ghost use Rattle.family.specs.Tallies.{AreNumbers, Keeps};
 ghost use Rattle.semantics.specs.Families.{Lawful, Values};
 
-use super::bag::Bag;
 use super::reading::Reading;
+use super::summary::Summary;
 use std::error::Error;
 use std::fmt;
 
@@ -36,7 +36,7 @@ pub trait Kind: TryFrom<u8, Error = LackingKind> + Copy {
     ghost value: { Values };
 
     // What the bags come to that have every sure weight and some, none or all of the open ones.
-    fn read(self, sure: &Bag, opens: &Bag) -> Reading
+    fn read(self, sure: &Summary, opens: &Summary) -> Reading
         ensures { (s o : List ℤ)
             → Keeps sure.now s
             → Keeps opens.now o

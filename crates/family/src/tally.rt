@@ -1,8 +1,8 @@
 ghost use Rattle.std.specs.Prelude.{◌≡◌, ◌+◌, ◌≤◌, IfOk, ℕ, List, [], ◌∷◌, ℤ};
 ghost use Rattle.family.specs.Bags.{Takes};
 
-use super::bag::Bag;
 use super::kind::LackingKind;
+use super::summary::Summary;
 use super::weights::takes;
 use std::alloc::AllocError;
 
@@ -10,8 +10,8 @@ use std::alloc::AllocError;
 // an open weight are added by two calls, as a family does it: each has a promise with no case in it.
 pub struct Tally<K> {
     pub kind: Option<K>,
-    pub sure: Bag,
-    pub open: Bag,
+    pub sure: Summary,
+    pub open: Summary,
     pub ghost few: { sure.count + «open».count ≤ 128 },
 }
 
@@ -35,8 +35,8 @@ impl<K: TryFrom<u8, Error = LackingKind> + Copy> Tally<K> {
     {
         Tally {
             kind: K::try_from(kind).ok(),
-            sure: Bag::new(),
-            open: Bag::new(),
+            sure: Summary::new(),
+            open: Summary::new(),
         }
     }
 

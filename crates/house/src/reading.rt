@@ -4,10 +4,10 @@ ghost use Rattle.semantics.specs.Families.{house};
 ghost use Rattle.semantics.proofs.Families.{house_lawful};
 
 use super::kind::HouseKind;
-use family::{Bag, Kind, Reading, Span};
+use family::{Summary, Kind, Reading, Span};
 
 // With no open weight the count is least, and with all of them greatest.
-fn counts(sure: &Bag, opens: &Bag) -> Span
+fn counts(sure: &Summary, opens: &Summary) -> Span
     ensures least { result.least ≡ pos sure.now.count }
     ensures greatest { result.greatest ≡ pos (sure.now.count + opens.now.count) }
 {
@@ -18,7 +18,7 @@ fn counts(sure: &Bag, opens: &Bag) -> Span
 }
 
 // With the open weights below zero the sum is least, and with those above greatest.
-fn sums(sure: &Bag, opens: &Bag) -> Span
+fn sums(sure: &Summary, opens: &Summary) -> Span
     ensures least { result.least ≡ (sure.now.below +ℤ sure.now.above) +ℤ opens.now.below }
     ensures greatest { result.greatest ≡ (sure.now.below +ℤ sure.now.above) +ℤ opens.now.above }
 {
@@ -43,7 +43,7 @@ impl Kind for HouseKind {
     ghost lawful = { house_lawful };
 
     // With no sure weight the least and the greatest weight are any open one, or nothing.
-    fn read(self, sure: &Bag, opens: &Bag) -> Reading {
+    fn read(self, sure: &Summary, opens: &Summary) -> Reading {
         match (self, sure.extremes) {
             (HouseKind::Count, _) => Reading::only_numbers(counts(sure, opens)),
             (HouseKind::Sum, _) => Reading::only_numbers(sums(sure, opens)),

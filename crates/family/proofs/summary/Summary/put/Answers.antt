@@ -1,5 +1,5 @@
 use Rattle.family.proofs.Extremes.{joined_small, widened_of}
-use Rattle.family.proofs.bag.Bag.put.Goals as goal
+use Rattle.family.proofs.summary.Summary.put.Goals as goal
 use Rattle.family.specs.Spans.{Small, alone, joined}
 use Rattle.std.proofs.Common.{◌≡◌, arith, rules, sym, ap, ◌∙◌, subst}
 use Rattle.std.proofs.lemmas.Int.{clamps, ints, to_z-of_z}

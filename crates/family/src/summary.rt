@@ -5,10 +5,10 @@ ghost use Rattle.semantics.specs.Families.{Weight};
 
 use super::reading::Span;
 
-// What is kept of a bag of weights. Each family reads from it what its kinds need; one that needs no sums pays two
-// additions a weight for them.
+// What is kept of a bag of weights: a summary, which stands for every bag that has these numbers. Each family reads from it
+// what its kinds need; one that needs no sums pays two additions a weight for them.
 #[derive(Clone, Copy)]
-pub struct Bag {
+pub struct Summary {
     // how many there are
     pub count: u32,
     // the sum of those below zero, and of those above
@@ -21,14 +21,14 @@ pub struct Bag {
     pub ghost small: { SmallIfAny extremes },
 }
 
-impl Bag {
+impl Summary {
     ghost use Rattle.family.specs.Tallies.{Keeps};
 
     // Of a bag with no weights.
-    pub(crate) fn new() -> Bag
+    pub(crate) fn new() -> Summary
         ensures { Keeps result [] }
     {
-        Bag {
+        Summary {
             count: 0,
             below: 0,
             above: 0,

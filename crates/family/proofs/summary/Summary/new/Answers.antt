@@ -1,4 +1,4 @@
-use Rattle.family.proofs.bag.Bag.new.Goals as goal
+use Rattle.family.proofs.summary.Summary.new.Goals as goal
 
 pub invariant_of-result-clause-small : goal.invariant_of-result-clause-small
 invariant_of-result-clause-small c = λ s e. cc
