@@ -7,7 +7,7 @@ ghost use Rattle.semantics.specs.Families.{bench};
 ghost use Rattle.semantics.proofs.Families.{bench_lawful};
 
 use super::kind::BenchKind;
-use family::{Summary, Kind, Reading, Span};
+use family::{Kind, Reading, Span, Summary};
 
 // How far the greatest is from the least.
 fn width(span: Span) -> i64

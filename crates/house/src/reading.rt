@@ -4,7 +4,7 @@ ghost use Rattle.semantics.specs.Families.{house};
 ghost use Rattle.semantics.proofs.Families.{house_lawful};
 
 use super::kind::HouseKind;
-use family::{Summary, Kind, Reading, Span};
+use family::{Kind, Reading, Span, Summary};
 
 // With no open weight the count is least, and with all of them greatest.
 fn counts(sure: &Summary, opens: &Summary) -> Span

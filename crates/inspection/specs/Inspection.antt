@@ -15,7 +15,7 @@ abbrev pub drawing_text : List (List ℕ) → Option Marking → List ℕ
 drawing_text names (Some m) = marks_text names m
 drawing_text names None = codes "clash\n"
 
--- the text is that of the drawing from no findings, and so says of a statement only what is so in every account
+-- the text is that of the drawing from no findings; a statement of which it says in or out is so in every account
 pub record ShowsDrawing (b text : List ℕ) : Type 0 where
   pub drawing : Option Marking
   pub drawn : Draws house (program (contents b)) [] drawing
