@@ -7,6 +7,7 @@ use drawing::draw;
 use family::Family;
 use house::House;
 use marking::Marking;
+use presence::Presence;
 use semantics::{Finding, Mark};
 use std::alloc::Global;
 use table::table::Table;
@@ -92,7 +93,8 @@ fn tell(rt: &HostRuntime, line: &str) -> anyhow::Result<()> {
     let text = match family {
         "house" => drawn_text(heap, &House, &case)?,
         "bench" => drawn_text(heap, &Bench, &case)?,
-        _ => return Err(anyhow!("a case names neither house nor bench")),
+        "presence" => drawn_text(heap, &Presence, &case)?,
+        _ => return Err(anyhow!("a case names none of house, bench and presence")),
     };
     println!(rt; "{name}: {text}")?;
     Ok(())

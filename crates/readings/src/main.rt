@@ -1,8 +1,10 @@
 #![tactic(auto)]
 
+use anyhow::anyhow;
 use bench::Bench;
 use family::{Family, Reading};
 use house::House;
+use presence::Presence;
 
 // Says of each case what a family reads off its weights. A case is a line: a name, then a colon, the family, the kind,
 // and weights, sure ones after `sure` and open ones after `open`, where `7*3` stands for `7` three times.
@@ -56,7 +58,9 @@ fn tell(rt: &HostRuntime, line: &str) -> anyhow::Result<()> {
     let (family, words) = case.split_once(' ').unwrap_or((case, ""));
     let reading = match family {
         "house" => read(&House, words)?,
-        _ => read(&Bench, words)?,
+        "bench" => read(&Bench, words)?,
+        "presence" => read(&Presence, words)?,
+        _ => return Err(anyhow!("a case names none of house, bench and presence")),
     };
     println!(rt; "{name}: {reading}")?;
     Ok(())
@@ -64,8 +68,8 @@ fn tell(rt: &HostRuntime, line: &str) -> anyhow::Result<()> {
 
 // The loop over the lines stays in each of the four programs: a function that takes `tell` would be longer than the loop.
 fn main(rt: HostRuntime) -> anyhow::Result<()> {
-    let (house, bench) = (House.kinds(), Bench.kinds());
-    println!(rt; "house has {house} kinds, and bench {bench}")?;
+    let (house, bench, presence) = (House.kinds(), Bench.kinds(), Presence.kinds());
+    println!(rt; "house has {house} kinds, bench {bench}, and presence {presence}")?;
     let text = std::io::read_to_string(rt.alloc(), rt.stdin())?;
     for line in text.lines() {
         tell(&rt, line)?;
