@@ -3,9 +3,10 @@
 ghost use Rattle.presence.specs.Values.{Stands, presence};
 ghost use Rattle.presence.specs.Laws.{presence_lawful};
 
+use family::{Family, Reading, takes};
+
 mod tally;
 
-use family::{Family, Reading, takes};
 pub use tally::PresenceTally;
 
 // The presence family, with one kind: 0 whether there is a weight, as 1 or 0. It implements `Family` itself, and is an
