@@ -6,5 +6,5 @@ mod literals;
 mod rulebook;
 
 pub use bodies::Body;
-pub use literals::{Literal, Literals, judge_head};
+pub use literals::{Literal, Literals, judge_head, judge_literals};
 pub use rulebook::Rulebook;

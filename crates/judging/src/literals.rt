@@ -45,7 +45,7 @@ impl Literals {
     }
 
     // With a literal more, whose statement has this mark.
-    fn and(self, literal: Literal, mark: Mark) -> Literals
+    pub fn and(self, literal: Literal, mark: Mark) -> Literals
         ensures { (m : List Mark) (ls : List Literal)
             → mark ≡ at m literal.statement
             → LiteralsAre m ls self
@@ -62,7 +62,7 @@ impl Literals {
 }
 
 // What a marking says of the literals of a run, together with those judged before.
-pub(crate) fn judge_literals(
+pub fn judge_literals(
     table: &Table,
     marking: &Marking,
     run: Run,

@@ -1,7 +1,9 @@
--- The number of open statements: counted from the last on, and never more under more marks.
+-- The number of open statements, and of those that are in: counted from the last on, and never more under more marks.
 use Rattle.std.proofs.Common.{◌≡◌, zero, suc, ◌+◌, ◌≤◌, Bool, true, false, List, [], ◌∷◌, cond, count_by, length, refl, zero-add, ap, ◌∙◌, arith}
 use Rattle.marking.specs.Marks.{how_open, open_in}
+use Rattle.semantics.specs.FullMarkings.{is_in, row_of}
 use Rattle.semantics.specs.Markings.{Below, marked}
+use Rattle.semantics.specs.Rows.{how_many}
 use Rattle.semantics.specs.declared.Mark.{Mark}
 use Rattle.semantics.specs.declared.Mark.TheVariants.{Open, In, Out}
 use Rattle.std.proofs.lemmas.List.Recursion.{is_count_by}
@@ -18,6 +20,15 @@ how_open_counts = is_count_by how_open is_open refl one_more
     one_more Open m = refl
     one_more In m = zero-add (how_open m)
     one_more Out m = zero-add (how_open m)
+
+-- and of those that are in
+pub in_counts : (m : List Mark) → how_many (row_of m) ≡ count_by is_in m
+in_counts = is_count_by (λ m. how_many (row_of m)) is_in refl one_more
+  where
+    one_more : (v : Mark) (m : List Mark) → how_many (row_of (v ∷ m)) ≡ cond (is_in v) (1 + how_many (row_of m)) (how_many (row_of m))
+    one_more Open m = zero-add _
+    one_more In m = refl
+    one_more Out m = zero-add _
 
 one_at_most : (v : Mark) → open_in v ≤ 1
 one_at_most Open = omega arith

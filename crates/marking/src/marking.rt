@@ -1,6 +1,8 @@
 ghost use Rattle.std.specs.Prelude.{◌≡◌, ◌≤◌, length, min, map, replicate, slice_set};
 ghost use Rattle.marking.specs.Marks.{how_open};
+ghost use Rattle.semantics.specs.FullMarkings.{row_of};
 ghost use Rattle.semantics.specs.Markings.{at, found};
+ghost use Rattle.semantics.specs.Rows.{how_many};
 ghost use Rattle.semantics.specs.declared.Mark.TheVariants.{Open};
 ghost use Rattle.std.specs.List.{range_with_len};
 
@@ -82,6 +84,16 @@ impl Marking {
         open.count() as u16
     }
 
+    // How many statements are in.
+    #[tactic(auto, using(crate::proofs::Counting::in_counts))]
+    pub fn in_count(&self) -> u16
+        ensures { result ≡ how_many (row_of self.now) }
+    {
+        let present = self.marks().iter().filter(|mark| **mark == Mark::In);
+        // Stays `as`, as above.
+        present.count() as u16
+    }
+
     // Marks a statement; past the last one it does nothing.
     #[tactic(auto, using(crate::proofs::Parts::set_part))]
     pub fn set(&mut self, statement: u16, mark: Mark)
@@ -90,6 +102,15 @@ impl Marking {
         if statement < self.statements {
             self.marks[usize::from(statement)] = mark;
         }
+    }
+
+    // The marking with one statement marked so; past the last one it is as it was.
+    pub fn with(self, statement: u16, mark: Mark) -> Marking
+        ensures { result ≡ slice_set self statement mark }
+    {
+        let mut with = self;
+        with.set(statement, mark);
+        with
     }
 
     // What findings say of the statements: of two findings of one statement, the first. Of more than 128 statements, the

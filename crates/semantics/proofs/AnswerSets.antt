@@ -1,7 +1,7 @@
 -- Support, and that no answer set is a proper part of another.
 use Rattle.std.proofs.Common.{◌≡◌, ℕ, ◌<◌, Bool, true, false, cond, not, ◌&&◌, ◌||◌, List, [], ◌∷◌, length, set, ℤ, sym, refl, ap, ◌∙◌, subst, ap₂, inl, inr, ⊎_elim}
-use Rattle.std.proofs.lemmas.List.{length-set, get_or-set_same, get_or-set_other, get_or_past}
-use Rattle.std.proofs.lemmas.Bool.{both_ways, not-true, not-false, cases_lt, cases_eq, cases_Bool, and_parts, and_from, or_cases, or_parts, or_left, or_right, not_from_false}
+use Rattle.std.proofs.lemmas.List.{length-set, get_or-set_same, get_or-set_other}
+use Rattle.std.proofs.lemmas.Bool.{both_ways, not-true, not-false, cases_eq, cases_Bool, and_parts, and_from, or_cases, or_parts, or_left, or_right, not_from_false}
 use Rattle.semantics.specs.declared.Member.{Member}
 use Rattle.semantics.specs.AnswerSets.{weights, passes, true_in, counts, members_met, needs_met, obeys_rule, obeys, AnswerSet, Supports}
 use Rattle.semantics.specs.Families.{Values}
@@ -10,6 +10,7 @@ use Rattle.std.specs.List.{list_all, list_any}
 use Rattle.semantics.specs.Programs.{Aggregate, Rule, Program}
 use Rattle.semantics.specs.Rows.{has, Part, ProperPart}
 use Rattle.semantics.specs.Theorems.{Supported, Antichain}
+use Rattle.semantics.proofs.FullMarkings.{has_inside}
 use Rattle.semantics.proofs.Lists.{all_at, all_from, all_fails, any_one, any_none}
 
 implies_itself : (b : Bool) → (not b || b) ≡ true
@@ -34,7 +35,7 @@ needs_of_itself s r h =
 -- Take q out of the answer set: what is left does not obey, and the rule that shows it supports q.
 module _ (value : Values) (p : Program) (s : List Bool) (q : ℕ) (a : AnswerSet value p s) (h : has s q ≡ true) where
   inside : q < length s
-  inside = ⊎_elim (λ l. l) (λ l. absurd (both_ways (has s q) (get_or_past s q false l) h)) (cases_lt q (length s))
+  inside = has_inside s q h
 
   abbrev rest : List Bool
   rest = set s q false

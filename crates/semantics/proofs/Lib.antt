@@ -1,5 +1,6 @@
 pub mod Lists
 pub mod Marks
+pub mod FullMarkings
 pub mod AnswerSets
 pub mod Monotone
 pub mod Sound

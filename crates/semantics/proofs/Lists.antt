@@ -1,6 +1,6 @@
 -- Quantifiers over lists, and what stands at a place.
 use Rattle.std.proofs.Common.{◌≡◌, ℕ, zero, suc, ◌<◌, Bool, true, false, ◌⊎◌, List, [], ◌∷◌, ◌++◌, length, get_or, sym, refl, ap, ◌∙◌, inl, inr, ⊎_elim, arith}
-use Rattle.std.proofs.lemmas.Bool.{and_parts, and_from, and_cases, or_cases, or_parts, true≢false, false≢true}
+use Rattle.std.proofs.lemmas.Bool.{and_parts, and_from, and_cases, or_cases, or_left, or_parts, or_right, true≢false, false≢true}
 use Rattle.semantics.specs.Lists.{Among, Nth}
 use Rattle.std.specs.List.{list_all, list_any}
 
@@ -28,6 +28,15 @@ module _ {X : Type 0} (f : X → Bool) where
   any_none [] x h m = absurd m
   any_none (y ∷ ys) x h (inl e) = ap f (sym e) ∙ (or_parts (f y) (list_any f ys) h).0
   any_none (y ∷ ys) x h (inr m) = any_none ys x (or_parts (f y) (list_any f ys) h).1 m
+
+  pub any_from : (xs : List X) (x : X) → Among x xs → f x ≡ true → list_any f xs ≡ true
+  any_from [] x m h = absurd m
+  any_from (y ∷ ys) x (inl e) h = or_left (f y) (list_any f ys) (ap f e ∙ h)
+  any_from (y ∷ ys) x (inr m) h = or_right (f y) (list_any f ys) (any_from ys x m h)
+
+  pub none_from : (xs : List X) → ((x : X) → Among x xs → f x ≡ false) → list_any f xs ≡ false
+  none_from [] h = refl
+  none_from (y ∷ ys) h = rw (h y (inl refl)) (none_from ys (λ x m. h x (inr m)))
 
 module _ {X : Type 0} where
   pub among_nth : (xs : List X) (x : X) → Among x xs → (i : ℕ) × Nth xs i x

@@ -4,6 +4,7 @@ use Rattle.std.proofs.lemmas.List.{ext_get_or, get_or_past, get_or-set_other, ge
 use Rattle.std.proofs.lemmas.Bool.{cases_eq, cases_lt}
 use Rattle.semantics.specs.declared.Mark.{Mark}
 use Rattle.semantics.specs.declared.Mark.TheVariants.{Open, In, Out}
+use Rattle.semantics.specs.FullMarkings.{is_in}
 use Rattle.semantics.specs.Markings.{at, marked, Allows, Below}
 
 pub open_unmarked : (x : Bool) → Open ≡ marked x → ⊥
@@ -30,6 +31,13 @@ other_value true false n = refl
 other_value false true n = refl
 other_value false false n = absurd (n refl)
 
+-- and one that is not the contrary
+pub same_value : (b x : Bool) → (b ≡ not x → ⊥) → b ≡ x
+same_value true true n = refl
+same_value true false n = absurd (n refl)
+same_value false true n = absurd (n refl)
+same_value false false n = refl
+
 pub cases_mark : (v : Mark) (x : Bool) → (v ≡ Open) ⊎ ((v ≡ marked x) ⊎ (v ≡ marked (not x)))
 cases_mark Open x = inl refl
 cases_mark In true = inr (inl refl)
@@ -48,14 +56,8 @@ same_mark Out w f g = sym (f false refl)
 pub same_marking : (m n : List Mark) → length m ≡ length n → Below m n → Below n m → m ≡ n
 same_marking m n l b c = ext_get_or Open m n l (λ k _. same_mark (at m k) (at n k) (b k) (c k))
 
--- one row that a marking allows
-pub is_in : Mark → Bool
-is_in Open = false
-is_in In = true
-is_in Out = false
-
+-- a mark allows what it says
 pub allows_in : (v : Mark) → Allows v (is_in v)
-unfolding is_in
 allows_in v true e = ap is_in e
 allows_in v false e = ap is_in e
 

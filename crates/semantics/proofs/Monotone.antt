@@ -6,10 +6,11 @@ use Rattle.semantics.specs.declared.Member.{Member}
 use Rattle.semantics.specs.AnswerSets.{weights}
 use Rattle.semantics.specs.Families.{Values}
 use Rattle.semantics.specs.Lists.{Among, Nth}
+use Rattle.semantics.specs.FullMarkings.{is_in}
 use Rattle.semantics.specs.Markings.{at, marked, Allows, Below, Bag, Attained, Between, Certain, Impossible, BodyCertain, Refuted, HeadOut, Broken, OneLeft, OthersOut, CertainButFor, Forces, fires, explains, chooses, blocks, unsupported, Settled}
 use Rattle.semantics.specs.Programs.{Aggregate, Rule}
 use Rattle.semantics.proofs.Lists.{among_nth, nth_same}
-use Rattle.semantics.proofs.Marks.{is_in, allows_in, both_marked, cases_mark, marked_inside}
+use Rattle.semantics.proofs.Marks.{allows_in, both_marked, cases_mark, marked_inside}
 
 -- the weights that a row picks are a bag under every marking that the row agrees with
 pub bag_of_row : (m : List Mark) (f : ℕ → Bool) → ((q : ℕ) → Allows (at m q) (f q)) → (ms : List Member) → Bag m ms (weights f ms)

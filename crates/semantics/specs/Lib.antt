@@ -4,6 +4,7 @@ pub mod Families
 pub mod Programs
 pub mod AnswerSets
 pub mod Markings
+pub mod FullMarkings
 pub mod Theorems
 pub mod Words
 pub mod Codes

@@ -24,9 +24,16 @@ use Rattle.table.proofs.Held.{aggregates_count, aggregates_long, aggregates_whol
 use Rattle.table.proofs.Numbers.{whole_fits}
 use Rattle.table.proofs.Records.{aggregate_fits, aggregates_inside, letter_fits, literal_fits, literals_inside, member_fits, members_inside, name_inside, rule_fits, statement_fits}
 use Rattle.table.proofs.Slices.{among_counted, among_counted_slice, among_slice, slice_at}
-use Rattle.table.specs.Contents.{aggregate_held, aggregates_held, contents, held, literals_held, member_held, members_held, names_held, nothing, rule_held, rules_held, slice}
+use Rattle.table.specs.Contents.{Contents, aggregate_held, aggregates_held, contents, held, literals_held, member_held, members_held, names_held, nothing, rule_held, rules_held, slice}
 use Rattle.table.specs.Limits.{AggregateLimits, Bytes, Distinct, Letter, MemberLimits, NameLimits, RuleLimits, WithinLimits, literals_in}
 use lib.Signed.{le_z}
+
+-- the statements that a rule names are statements of the table
+pub record Known (statements : ℕ) (r : Rule) : Type 0 where
+  pub head : (q : ℕ) → Among q r.head → q < statements
+  pub positive : (q : ℕ) → Among q r.positive → q < statements
+  pub negative : (q : ℕ) → Among q r.negative → q < statements
+  pub members : (g : Aggregate) (m : Member) → Among g r.aggregates → Among m g.members → m.statement < statements
 
 -- the sizes of the parts are in all the size of the whole
 size_total : {X Y : Type 0} (part : Y → List X) (f : X → ℕ) (ys : List Y) → sum_by (λ y. sum_by f (part y)) ys ≡ sum_by f (flat_map part ys)
@@ -121,11 +128,14 @@ module _ (b : List ℕ) (c : Clean b) where
         once = members_once j l _;
       }
 
-  each_aggregate : Bytes b → (i : ℕ) → i < count b Rules → (g : Aggregate) → Among g (rule_held b i).aggregates → AggregateLimits (length (names_held b)) g
+  aggregate_place : (i : ℕ) → i < count b Rules → (g : Aggregate) → Among g (rule_held b i).aggregates → (j : ℕ) × (j < count b Aggregates) × (aggregate_held b j ≡ g)
   unfolding aggregates_held
-  each_aggregate bytes i l g a =
+  aggregate_place i l g a =
       let p = among_counted_slice (aggregate_held b) (count b Aggregates) (first_aggregate b i) (aggregate_count b i) g (aggregates_inside b c i l) a in
-      rw (← p.2) (aggregate_limits bytes (first_aggregate b i + p.0) (omega (arith, p.1, aggregates_inside b c i l)))
+      (first_aggregate b i + p.0, omega (arith, p.1, aggregates_inside b c i l), p.2)
+
+  each_aggregate : Bytes b → (i : ℕ) → i < count b Rules → (g : Aggregate) → Among g (rule_held b i).aggregates → AggregateLimits (length (names_held b)) g
+  each_aggregate bytes i l g a = let p = aggregate_place i l g a in rw (← p.2) (aggregate_limits bytes p.0 p.1)
 
   -- rules
   literals_known : (first n : ℕ) → first + n ≤ count b Literals → (q : ℕ) → Among q (slice first n (literals_held b)) → q < length (names_held b)
@@ -135,6 +145,24 @@ module _ (b : List ℕ) (c : Clean b) where
       let e = sym (slice_at (offset b Literals) (count b Literals) b (first + p.0) 0 (omega (arith, p.1))) ∙ p.2 0 in
       rw (names_count b, ← e) (literal_fits b (first + p.0) (c.literal _ (omega (arith, p.1))))
 
+  -- what a rule names is known
+  members_known : (i : ℕ) → i < count b Rules → (g : Aggregate) (m : Member) → Among g (rule_held b i).aggregates → Among m g.members → m.statement < length (names_held b)
+  members_known i l g m a e =
+      let p = aggregate_place i l g a in
+      (each_member p.0 p.1 m (rw (← p.2) at e)).known
+
+  rule_known : (i : ℕ) → i < count b Rules → Known (length (names_held b)) (rule_held b i)
+  rule_known i l = record {
+    head = literals_known (first_literal b i) (head_count b i) (omega (arith, literals_inside b c i l));
+    positive = literals_known (first_literal b i + head_count b i) (positive_count b i) (omega (arith, literals_inside b c i l));
+    negative = literals_known (first_literal b i + head_count b i + positive_count b i) (negative_count b i) (omega (arith, literals_inside b c i l));
+    members = members_known i l;
+  }
+
+  each_known : (r : Rule) → Among r (rules_held b) → Known (length (names_held b)) r
+  unfolding rules_held
+  each_known r m = let p = among_counted (rule_held b) (count b Rules) r m in rw (← p.2) (rule_known p.0 p.1)
+
   rule_limits : Bytes b → (i : ℕ) → i < count b Rules → RuleLimits (length (names_held b)) (rule_held b i)
   rule_limits bytes i l =
       let fits = rule_fits b i (c.rule i l) in
@@ -143,9 +171,9 @@ module _ (b : List ℕ) (c : Clean b) where
         positive = omega (arith, fits.positive, positive_long b c i l);
         negative = omega (arith, fits.negative, negative_long b c i l);
         aggregates = omega (arith, fits.aggregates, aggregates_long b c i l);
-        head_known = literals_known (first_literal b i) (head_count b i) (omega (arith, literals_inside b c i l));
-        positive_known = literals_known (first_literal b i + head_count b i) (positive_count b i) (omega (arith, literals_inside b c i l));
-        negative_known = literals_known (first_literal b i + head_count b i + positive_count b i) (negative_count b i) (omega (arith, literals_inside b c i l));
+        head_known = (rule_known i l).head;
+        positive_known = (rule_known i l).positive;
+        negative_known = (rule_known i l).negative;
         each = each_aggregate bytes i l;
       }
 
@@ -169,11 +197,21 @@ module _ (b : List ℕ) (c : Clean b) where
 pub within_limits : (b : List ℕ) → Bytes b → accepted b ≡ true → WithinLimits (contents b)
 within_limits b bytes ok = rw (contents_held b ok) (held_within b (clean b ok) bytes)
 
--- no table, opened or not, has more than 128 statements
-pub names_few : (b : List ℕ) → length (contents b).names ≤ 128
-unfolding contents
-names_few b = go (accepted b) refl
-  where
-    go : (ok : Bool) → accepted b ≡ ok → length (cond ok (held b) nothing).names ≤ 128
-    go true e = omega (arith, names_count b, few b (clean b e) Statements)
-    go false e = omega arith
+-- so much of it holds of every table, opened or not
+module _ (b : List ℕ) where
+  every_table : (P : Contents → Type 0) → ((c : Clean b) → P (held b)) → P nothing → P (contents b)
+  unfolding contents
+  every_table P h n = go (accepted b) refl
+    where
+      go : (ok : Bool) → accepted b ≡ ok → P (cond ok (held b) nothing)
+      go true e = h (clean b e)
+      go false e = n
+
+  pub names_few : length (contents b).names ≤ 128
+  names_few = every_table (λ t. length t.names ≤ 128) (λ c. omega (arith, names_count b, few b c Statements)) (omega arith)
+
+  pub rules_few : length (contents b).rules ≤ 1024
+  rules_few = every_table (λ t. length t.rules ≤ 1024) (λ c. omega (arith, rules_count b, few b c Rules)) (omega arith)
+
+  pub rules_known : (r : Rule) → Among r (contents b).rules → Known (length (contents b).names) r
+  rules_known = every_table (λ t. (r : Rule) → Among r t.rules → Known (length t.names) r) (λ c. each_known b c) (λ r a. absurd a)

@@ -9,4 +9,4 @@ use Rattle.table.specs.Tables.{contents_of}
 abbrev pub invariant-loop-k : goal.invariant-loop-k
 invariant-loop-k l =
     (l.k-start ≤ l.initial.k → l.k-start ≤ l.k)
-    × ((ls : List Literal) → l.initial.k ≤ length (contents_of l.table).literals → LiteralsAre l.marking ls l.initial.all → LiteralsAre l.marking (as_literals l.present (tail (contents_of l.table).literals l.initial.k l.k) ++ ls) l.all)
+    × ((ls : List Literal) → l.initial.k ≤ length (contents_of l.table).literals → LiteralsAre l.marking ls l.fn.before → LiteralsAre l.marking (as_literals l.present (tail (contents_of l.table).literals l.initial.k l.k) ++ ls) l.all)
