@@ -1,0 +1,10 @@
+pub mod Bodies
+pub mod Obeying
+pub mod Keeping
+pub mod Failing
+pub mod Removing
+pub mod Comparing
+pub mod Pruning
+pub mod Minimal
+pub mod Seeking
+pub mod Starting

@@ -1,0 +1,5 @@
+pub mod Reducts
+pub mod Smaller
+pub mod Parts
+pub mod Accounts
+pub mod Words
