@@ -6,7 +6,7 @@ use std::io::Read;
 // One byte more than the largest table has, so that nothing longer is accepted.
 const MOST: u64 = 49_693;
 
-// Shows the table on standard input as people read it, and what its rules force by themselves.
+// Shows the table on standard input as people read it, what its rules force by themselves, and their earliest account.
 fn main(rt: HostRuntime) -> io::Result<()> {
     let heap = rt.alloc();
     let mut bytes = Vec::new(heap);

@@ -1,27 +1,36 @@
 -- The drawing of a table of two rules, step by step, and its text by computing.
-use Rattle.std.proofs.Common.{◌≡◌, ℕ, zero, suc, ◌<◌, Bool, true, false, List, [], ◌∷◌, ◌++◌, length, ℤ, pos, ◌≤ℤ◌, Some, None, codes, Option, sym, refl, ap, ◌∙◌, subst, inl, inr, ⊎_elim, arith}
+use Rattle.std.proofs.Common.{◌≡◌, ℕ, zero, suc, ◌<◌, Bool, true, false, List, [], ◌∷◌, ◌++◌, length, ℤ, pos, ◌≤ℤ◌, Some, None, codes, Option, replicate, sym, refl, ap, ap₂, ◌∙◌, subst, inl, inr, ⊎_elim, arith}
 use Rattle.drawing.specs.Drawings.{Draws}
 use Rattle.format.specs.Check.{accepted}
 use Rattle.format.specs.Faults.{each}
 use Rattle.inspection.specs.Example.{TwoRulesInspected}
-use Rattle.inspection.specs.Inspection.{ForcedText, InspectedIf, KindsThenDrawing, drawing_text}
+use Rattle.inspection.specs.Inspection.{InspectedIf, KindsThenAnswers, Said, ShowsAccount, ShowsAnswers, ShowsDrawing, drawing_text, marks_of}
 use Rattle.kinds.specs.Lacking.{lacking}
 use Rattle.marking.specs.declared.marking.Marking.{Marking}
 use Rattle.notation.proofs.Worked.{worked}
+use Rattle.notation.specs.Accounts.{account_text, found_text}
 use Rattle.notation.specs.Marks.{marks_text}
 use Rattle.notation.specs.Shown.{shown}
 use Rattle.semantics.proofs.Drawing.{steps_sound}
 use Rattle.semantics.proofs.Families.{none_some, same_some}
 use Rattle.semantics.proofs.Marks.{marked_once, open_unmarked}
 use Rattle.semantics.proofs.SmallTables.{small_tables}
-use Rattle.semantics.specs.Families.{house}
+use Rattle.semantics.proofs.Order.{order}
+use Rattle.semantics.specs.AnswerSets.{Earliest}
+use Rattle.semantics.specs.Families.{Values, house}
+use Rattle.semantics.specs.FullMarkings.{row_of}
 use Rattle.semantics.specs.Lists.{Among}
 use Rattle.semantics.specs.Markings.{Agrees, Attained, Bag, Certain, Drawn, OthersOut, Step, at, fires, here, literals, marked, noted, then}
-use Rattle.semantics.specs.Programs.{Aggregate, Rule}
+use Rattle.semantics.specs.Programs.{Aggregate, Program, Rule}
+use Rattle.semantics.specs.Rows.{Precedes}
 use Rattle.semantics.specs.SmallTables.{◌weighs◌, a, b, count, fact, over, rule, table_6}
+use Rattle.semantics.specs.declared.Finding.{Finding}
 use Rattle.semantics.specs.declared.Mark.{Mark}
 use Rattle.semantics.specs.declared.Relation.TheVariants.{More}
-use Rattle.semantics.specs.declared.Mark.TheVariants.{Open, In}
+use Rattle.semantics.specs.declared.Mark.TheVariants.{Open, In, Out}
+use Rattle.solver.specs.Accounts.{SeeksFor}
+use Rattle.solver.specs.declared.account.Account.{Account as FoundAccount}
+use Rattle.std.specs.Fmt.{digits}
 use Rattle.std.proofs.lemmas.Int.{ints}
 use Rattle.std.proofs.lemmas.Bool.{false≢true}
 use Rattle.table.proofs.Example.{example}
@@ -124,13 +133,52 @@ none_lacking : lacking 4 two_rules ≡ []
 unfolding accepted each aggregates_held contents literals_held members_held names_held rules_held
 none_lacking = refl
 
-forced_text : (text : List ℕ) → ForcedText two_rules text → text ≡ drawn_text
-forced_text text f =
-    let g : KindsThenDrawing [] two_rules text = subst (λ l. KindsThenDrawing l two_rules text) none_lacking f in
-    let h : Draws house table_6 [] g.drawing = subst (λ p. Draws house p [] g.drawing) example.stands g.drawn in
-    g.shown ∙ ap (λ names. drawing_text names g.drawing) example.named ∙ text_of_drawing g.drawing h
+abbrev accounted_text : List ℕ
+accounted_text = codes "account 2\nin a\nin b\n"
+
+-- the earliest account is one: of two each would come before the other
+earliest_once : (value : Values) (p : Program) (f : List Finding) (s t : List Bool) → Earliest value p f s → Earliest value p f t → s ≡ t
+earliest_once value p f s t e g =
+    ⊎_elim
+    (λ i. i)
+    (λ i. ⊎_elim
+    (λ (l : Precedes s t). absurd (order.irreflexive s (order.transitive s t s l (g.others s e.account (λ k. order.irreflexive t (subst (λ x. Precedes x t) k l))))))
+    (λ (l : Precedes t s). absurd (order.irreflexive t (order.transitive t s t l (e.others t g.account (λ k. order.irreflexive s (subst (λ x. Precedes x s) k l))))))
+    i)
+    (order.total s t (e.account.answer.long ∙ sym g.account.answer.long))
+
+-- marks whose row has all statements are all in
+all_in : (m : List Mark) (n : ℕ) → row_of m ≡ replicate n true → m ≡ replicate n In
+all_in [] zero e = refl
+all_in [] (suc n) e = let w : ◌≡◌ {A = ℕ} 0 1 = cc in absurd (omega arith)
+all_in (v ∷ m) zero e = let w : ◌≡◌ {A = ℕ} 0 1 = cc in absurd (omega arith)
+all_in (Open ∷ m) (suc n) e = absurd (false≢true cc)
+all_in (Out ∷ m) (suc n) e = absurd (false≢true cc)
+all_in (In ∷ m) (suc n) e = let r : row_of m ≡ replicate n true = cc in ap (λ k. In ∷ k) (all_in m n r)
+
+-- the account of these rules has both statements
+text_of_account : (r : Option FoundAccount) → SeeksFor house table_6 [] r → account_text (codes "a" ∷ codes "b" ∷ []) (marks_of r) ≡ accounted_text
+unfolding digits
+text_of_account (Some found) h =
+    ap (found_text (codes "a" ∷ codes "b" ∷ [])) (all_in found.marks 2 (earliest_once house table_6 [] (row_of found.marks) (true ∷ true ∷ []) h.earliest small_tables.other_member)) ∙ refl
+text_of_account None h = absurd (h (true ∷ true ∷ []) small_tables.other_member.account)
+
+said_text : (text : List ℕ) → Said two_rules text → text ≡ drawn_text ++ accounted_text
+said_text text f =
+    let g : ShowsAnswers two_rules text = subst (λ l. KindsThenAnswers l two_rules text) none_lacking f in
+    g.4 ∙ ap₂ (λ (x y : List ℕ). x ++ y) (forced g.0 g.2) (accounted g.1 g.3)
+  where
+    forced : (out : List ℕ) → ShowsDrawing two_rules out → out ≡ drawn_text
+    forced out d =
+        let h : Draws house table_6 [] d.drawing = subst (λ p. Draws house p [] d.drawing) example.stands d.drawn in
+        d.shown ∙ ap (λ names. drawing_text names d.drawing) example.named ∙ text_of_drawing d.drawing h
+
+    accounted : (out : List ℕ) → ShowsAccount two_rules out → out ≡ accounted_text
+    accounted out d =
+        let h : SeeksFor house table_6 [] d.account = subst (λ p. SeeksFor house p [] d.account) example.stands d.sought in
+        d.shown ∙ ap (λ names. account_text names (marks_of d.account)) example.named ∙ text_of_account d.account h
 
 pub two_rules_inspected : TwoRulesInspected
 two_rules_inspected out i =
     let j : InspectedIf true two_rules out = subst (λ ok. InspectedIf ok two_rules out) example.passes i in
-    j.2 ∙ ap (λ text. shown two_rules ++ text) (forced_text j.0 j.1) ∙ ap (λ s. s ++ drawn_text) worked.two
+    j.2 ∙ ap (λ text. shown two_rules ++ text) (said_text j.0 j.1) ∙ ap (λ s. s ++ (drawn_text ++ accounted_text)) worked.two

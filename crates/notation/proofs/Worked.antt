@@ -13,4 +13,5 @@ unfolding accepted digits each shown aggregates_held contents literals_held memb
 worked = record { full = refl; alone = refl; no_head = refl; other_kind = refl; nothing = refl; two = refl; short = refl }
 
 pub marks_worked : MarkExamples
-marks_worked = record { each_mark = refl }
+unfolding digits
+marks_worked = record { account = refl; empty_account = refl; no_account = refl; each_mark = refl }

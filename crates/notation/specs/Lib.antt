@@ -4,3 +4,4 @@ pub mod Shown
 pub mod Marks
 pub mod Examples
 pub mod MarkExamples
+pub mod Accounts

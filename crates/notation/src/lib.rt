@@ -1,5 +1,6 @@
 #![tactic(auto)]
 
+mod accounts;
 mod marks;
 mod pieces;
 mod report;
@@ -7,6 +8,7 @@ mod rules;
 mod theorems;
 mod words;
 
+pub use accounts::account_text;
 pub use marks::marks_text;
 pub use report::{fault_text, shown};
 pub use rules::rule_text;
