@@ -97,7 +97,7 @@ fn account_text(heap: Global, table: &Table, account: Option<Account>) -> anyhow
     Ok(format!(in heap; "account {}:{names}", account.statements_in)?)
 }
 
-// How much was searched: nodes for accounts, and nodes in the tests of full rows.
+// How much was searched: nodes for accounts, and nodes in the tests of rows.
 fn effort_text<F>(heap: Global, accounts: &Accounts<F>) -> anyhow::Result<String> {
     let (seeking, testing) = (&accounts.seeking, &accounts.testing);
     Ok(format!(in heap;
