@@ -21,7 +21,7 @@ use Rattle.semantics.specs.Theorems.{Noted}
 use Rattle.semantics.specs.declared.Finding.{Finding}
 use Rattle.semantics.specs.declared.Mark.{Mark}
 use Rattle.semantics.specs.declared.Mark.TheVariants.{Open}
-use Rattle.solver.specs.Accounts.{AccountFrom, EarliestFrom, EveryAccount, Excluded, NoAccountFrom, Seeks, SeeksFor, SomeAccount, Weighs, some_has, some_lacks}
+use Rattle.solver.specs.Accounts.{AccountFrom, EarliestFrom, EveryAccount, Excluded, Seeks, SeeksFor, SomeAccount, Weighs, some_has, some_lacks}
 use Rattle.solver.specs.declared.weighing.Weighing.{Weighing}
 use Rattle.solver.specs.declared.weighing.Weighing.TheVariants.{InEvery, InNone, InSome, NoAccount}
 use Rattle.solver.specs.declared.account.Account.{Account as FoundAccount}
@@ -55,10 +55,6 @@ module _ (value : Values) (p : Program) (start : List Mark) where
             account = solves_account (row_of k) h.solution;
             others = λ t b d. h.others t (account_solves t b) d;
           }
-
-  -- and where it finds none there is none
-  pub found_none : ((s : List Bool) → Solves (AnswerSet value p) p.statements start s → ⊥) → NoAccountFrom value p start
-  found_none h = λ s a. h s (account_solves s a)
 
   -- the accounts of a marking with one mark more are those that have the statement so
   module _ (q : ℕ) (x : Bool) where
