@@ -4,7 +4,7 @@ use Rattle.drawing.specs.Drawings.{Draws}
 use Rattle.format.specs.Check.{accepted}
 use Rattle.format.specs.Faults.{each}
 use Rattle.inspection.specs.Example.{TwoRulesInspected}
-use Rattle.inspection.specs.Inspection.{InspectedIf, KindsThenAnswers, Said, ShowsAccount, ShowsAnswers, ShowsDrawing, drawing_text, marks_of}
+use Rattle.inspection.specs.Inspection.{InspectedIf, KindsThenAnswers, Said, ShowsAccount, ShowsAnswers, ShowsDrawing, drawing_text}
 use Rattle.kinds.specs.Lacking.{lacking}
 use Rattle.marking.specs.declared.marking.Marking.{Marking}
 use Rattle.notation.proofs.Worked.{worked}
@@ -28,7 +28,7 @@ use Rattle.semantics.specs.declared.Finding.{Finding}
 use Rattle.semantics.specs.declared.Mark.{Mark}
 use Rattle.semantics.specs.declared.Relation.TheVariants.{More}
 use Rattle.semantics.specs.declared.Mark.TheVariants.{Open, In, Out}
-use Rattle.solver.specs.Accounts.{SeeksFor}
+use Rattle.solver.specs.Accounts.{SeeksFor, marks_of}
 use Rattle.solver.specs.declared.account.Account.{Account as FoundAccount}
 use Rattle.std.specs.Fmt.{digits}
 use Rattle.std.proofs.lemmas.Int.{ints}
@@ -129,11 +129,11 @@ text_of_drawing (Some m) h = ap (marks_text (codes "a" ∷ codes "b" ∷ [])) (s
 text_of_drawing None h = absurd (h both_in both_drawn)
 
 -- no kind is lacking
-none_lacking : lacking 4 two_rules ≡ []
+pub none_lacking : lacking 4 two_rules ≡ []
 unfolding accepted each aggregates_held contents literals_held members_held names_held rules_held
 none_lacking = refl
 
-abbrev accounted_text : List ℕ
+abbrev pub accounted_text : List ℕ
 accounted_text = codes "account 2\nin a\nin b\n"
 
 -- the earliest account is one: of two each would come before the other
@@ -163,6 +163,12 @@ text_of_account (Some found) h =
     ap (found_text (codes "a" ∷ codes "b" ∷ [])) (all_in found.marks 2 (earliest_once house table_6 [] (row_of found.marks) (true ∷ true ∷ []) h.earliest small_tables.other_member)) ∙ refl
 text_of_account None h = absurd (h (true ∷ true ∷ []) small_tables.other_member.account)
 
+-- so the text of the earliest account is this one
+pub accounted : (out : List ℕ) → ShowsAccount two_rules out → out ≡ accounted_text
+accounted out d =
+    let h : SeeksFor house table_6 [] d.account = subst (λ p. SeeksFor house p [] d.account) example.stands d.sought in
+    d.shown ∙ ap (λ names. account_text names (marks_of d.account)) example.named ∙ text_of_account d.account h
+
 said_text : (text : List ℕ) → Said two_rules text → text ≡ drawn_text ++ accounted_text
 said_text text f =
     let g : ShowsAnswers two_rules text = subst (λ l. KindsThenAnswers l two_rules text) none_lacking f in
@@ -172,11 +178,6 @@ said_text text f =
     forced out d =
         let h : Draws house table_6 [] d.drawing = subst (λ p. Draws house p [] d.drawing) example.stands d.drawn in
         d.shown ∙ ap (λ names. drawing_text names d.drawing) example.named ∙ text_of_drawing d.drawing h
-
-    accounted : (out : List ℕ) → ShowsAccount two_rules out → out ≡ accounted_text
-    accounted out d =
-        let h : SeeksFor house table_6 [] d.account = subst (λ p. SeeksFor house p [] d.account) example.stands d.sought in
-        d.shown ∙ ap (λ names. account_text names (marks_of d.account)) example.named ∙ text_of_account d.account h
 
 pub two_rules_inspected : TwoRulesInspected
 two_rules_inspected out i =

@@ -9,7 +9,7 @@ use Rattle.notation.specs.Marks.{marks_text}
 use Rattle.notation.specs.Shown.{fault_text, shown}
 use Rattle.refusal.specs.declared.Fault.{Fault}
 use Rattle.semantics.specs.Families.{house}
-use Rattle.solver.specs.Accounts.{SeeksFor}
+use Rattle.solver.specs.Accounts.{SeeksFor, marks_of}
 use Rattle.solver.specs.declared.account.Account.{Account}
 use Rattle.table.specs.Contents.{contents, program}
 
@@ -24,11 +24,6 @@ pub record ShowsDrawing (b text : List ℕ) : Type 0 where
   pub drawn : Draws house (program (contents b)) [] drawing
   pub accounts : KeepsAccounts house (program (contents b)) [] drawing
   pub shown : text ≡ drawing_text (contents b).names drawing
-
--- the marks of an account
-abbrev pub marks_of : Option Account → Option Marking
-marks_of (Some a) = Some a.marks
-marks_of None = None
 
 -- the text is that of the earliest account with no findings, or says that there is none
 pub record ShowsAccount (b text : List ℕ) : Type 0 where

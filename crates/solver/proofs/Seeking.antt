@@ -21,7 +21,7 @@ use Rattle.semantics.specs.Theorems.{Noted}
 use Rattle.semantics.specs.declared.Finding.{Finding}
 use Rattle.semantics.specs.declared.Mark.{Mark}
 use Rattle.semantics.specs.declared.Mark.TheVariants.{Open}
-use Rattle.solver.specs.Accounts.{AccountFrom, EarliestFrom, EveryAccount, Excluded, Seeks, SeeksFor, SomeAccount, Weighs, some_has, some_lacks}
+use Rattle.solver.specs.Accounts.{AccountFrom, EarliestFrom, EveryAccount, EveryAccountOf, Excluded, Seeks, SeeksFor, SomeAccount, SomeAccountOf, Weighs, WeighsFor, some_has, some_lacks}
 use Rattle.solver.specs.declared.weighing.Weighing.{Weighing}
 use Rattle.solver.specs.declared.weighing.Weighing.TheVariants.{InEvery, InNone, InSome, NoAccount}
 use Rattle.solver.specs.declared.account.Account.{Account as FoundAccount}
@@ -119,6 +119,18 @@ module _ (value : Values) (p : Program) (findings : List Finding) (n : Noted p f
     earliest = record { account = account_of (row_of a.marks) h.account; others = λ t b d. h.others t (account_from t b) d };
   }
   sought_for None h = λ s a. h s (account_from s a)
+
+  some_of : (q : ℕ) (x : Bool) → SomeAccount value p (noted p findings) q x → SomeAccountOf value p findings q x
+  some_of q x (s, a, e) = (s, account_of s a, e)
+
+  every_of : (q : ℕ) (x : Bool) → EveryAccount value p (noted p findings) q x → EveryAccountOf value p findings q x
+  every_of q x h s a = h s (account_from s a)
+
+  pub weighed_for : (q : ℕ) (w : Weighing) → Weighs value p (noted p findings) q w → WeighsFor value p findings q w
+  weighed_for q InEvery (h, all) = (some_of q true h, every_of q true all)
+  weighed_for q InNone (h, all) = (some_of q false h, every_of q false all)
+  weighed_for q InSome (h, k) = (some_of q true h, some_of q false k)
+  weighed_for q NoAccount h = λ s a. h s (account_from s a)
 
 -- weighing the accounts of a drawing weighs those of its start
 module _ (value : Values) (p : Program) (start drawn : List Mark) (n : Narrows (AnswerSet value p) start drawn) (q : ℕ) where

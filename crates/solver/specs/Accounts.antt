@@ -1,7 +1,8 @@
 -- The accounts that extend a marking.
 use Rattle.std.specs.Prelude.{◌≡◌, ◌≢◌, ◌≤◌, ◌⊎◌, ℕ, Bool, true, false, not, List, length, Some, None, Option}
+use Rattle.marking.specs.declared.marking.Marking.{Marking}
 use Rattle.semantics.specs.AnswerSets.{AnswerSet, Earliest, Supports}
-use Rattle.semantics.specs.AnswerSets.{NoAccount as NoAccountOf}
+use Rattle.semantics.specs.AnswerSets.{Account as AccountOf, NoAccount as NoAccountOf}
 use Rattle.semantics.specs.Families.{Values}
 use Rattle.semantics.specs.FullMarkings.{Extends, Full, row_of}
 use Rattle.semantics.specs.Lists.{Among}
@@ -50,6 +51,11 @@ abbrev pub SeeksFor : Values → Program → List Finding → Option Account →
 SeeksFor value p findings (Some a) = EarliestFor value p findings a
 SeeksFor value p findings None = NoAccountOf value p findings
 
+-- the marks of an account, where there is one
+abbrev pub marks_of : Option Account → Option Marking
+marks_of (Some a) = Some a.marks
+marks_of None = None
+
 -- some account has the statement (true), or lacks it (false)
 abbrev pub SomeAccount : Values → Program → List Mark → ℕ → Bool → Type 0
 SomeAccount value p start q x = (s : List Bool) × AccountFrom value p start s × (has s q ≡ x)
@@ -64,6 +70,21 @@ Weighs value p start q NoAccount = NoAccountFrom value p start
 Weighs value p start q InEvery = SomeAccount value p start q true × EveryAccount value p start q true
 Weighs value p start q InNone = SomeAccount value p start q false × EveryAccount value p start q false
 Weighs value p start q InSome = SomeAccount value p start q true × SomeAccount value p start q false
+
+-- some account of findings has the statement (true), or lacks it (false)
+abbrev pub SomeAccountOf : Values → Program → List Finding → ℕ → Bool → Type 0
+SomeAccountOf value p findings q x = (s : List Bool) × AccountOf value p findings s × (has s q ≡ x)
+
+-- every account of findings has the statement, or lacks it
+abbrev pub EveryAccountOf : Values → Program → List Finding → ℕ → Bool → Type 0
+EveryAccountOf value p findings q x = (s : List Bool) → AccountOf value p findings s → has s q ≡ x
+
+-- what is told of a statement over the accounts of findings
+abbrev pub WeighsFor : Values → Program → List Finding → ℕ → Weighing → Type 0
+WeighsFor value p findings q NoAccount = NoAccountOf value p findings
+WeighsFor value p findings q InEvery = SomeAccountOf value p findings q true × EveryAccountOf value p findings q true
+WeighsFor value p findings q InNone = SomeAccountOf value p findings q false × EveryAccountOf value p findings q false
+WeighsFor value p findings q InSome = SomeAccountOf value p findings q true × SomeAccountOf value p findings q false
 
 -- whether what is told means that some account has the statement
 abbrev pub some_has : Weighing → Bool
