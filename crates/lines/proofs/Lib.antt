@@ -1,0 +1,4 @@
+pub mod Following
+pub mod Digits
+pub mod Steps
+pub mod Room
