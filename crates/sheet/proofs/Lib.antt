@@ -1,0 +1,6 @@
+pub mod Apart
+pub mod Sought
+pub mod Bytes
+pub mod Ledgers
+pub mod Made
+pub mod Refused
