@@ -1,0 +1,8 @@
+use Rattle.daybook.proofs.telling.MarkLinesDisplay.fmt.Given as goal
+use Rattle.daybook.specs.Telling.{mark_lines_to}
+use Rattle.std.specs.Fmt.{HasWritten, IsPlainFormatter}
+use Rattle.table.specs.Tables.{contents_of}
+
+abbrev pub invariant-loop-statement : goal.invariant-loop-statement
+invariant-loop-statement g l =
+    IsPlainFormatter l.initial.f → HasWritten g.W.Write.write_str_gives l.initial.f (mark_lines_to (contents_of l.marks.table).names l.marks.bytes.now l.statement) l.f
