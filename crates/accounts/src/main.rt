@@ -2,15 +2,13 @@
 
 use std::io;
 use std::io::{Read, Write};
-
-// One byte more than the largest table has, so that nothing longer is accepted.
-const MOST: u64 = 49_693;
+use table::table::Table;
 
 // Reports the earliest account of the table on standard input, with nothing found and under the house family.
 fn main(rt: HostRuntime) -> io::Result<()> {
     let heap = rt.alloc();
     let mut bytes = Vec::new(heap);
-    rt.stdin().take(MOST).read_to_end(&mut bytes)?;
+    rt.stdin().take(Table::most_read()).read_to_end(&mut bytes)?;
     let report = reporting::reported(heap, &bytes)?;
     rt.stdout().write_all(&report)
 }

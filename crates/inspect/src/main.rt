@@ -2,15 +2,13 @@
 
 use std::io;
 use std::io::Read;
-
-// One byte more than the largest table has, so that nothing longer is accepted.
-const MOST: u64 = 49_693;
+use table::table::Table;
 
 // Shows the table on standard input as people read it, what its rules force by themselves, and their earliest account.
 fn main(rt: HostRuntime) -> io::Result<()> {
     let heap = rt.alloc();
     let mut bytes = Vec::new(heap);
-    rt.stdin().take(MOST).read_to_end(&mut bytes)?;
+    rt.stdin().take(Table::most_read()).read_to_end(&mut bytes)?;
     let text = inspection::inspected(heap, &bytes)?;
     print!(rt; "{text}")
 }

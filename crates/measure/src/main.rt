@@ -8,9 +8,6 @@ use std::io::Read;
 use std::time::{Duration, Instant};
 use table::table::Table;
 
-// One byte more than the largest table has, so that nothing longer is accepted.
-const MOST: u64 = 49_693;
-
 // Seeks the earliest account of a table under the house family and no findings, and says how much was searched.
 fn seek(rt: &HostRuntime, table: &Table) -> anyhow::Result<()> {
     let accounts = Accounts::new(table, &House);
@@ -49,7 +46,7 @@ fn least_time(rt: &HostRuntime, table: &Table, turns: u32) -> anyhow::Result<Dur
 fn main(rt: HostRuntime) -> anyhow::Result<()> {
     let heap = rt.alloc();
     let mut bytes = Vec::new(heap);
-    rt.stdin().take(MOST).read_to_end(&mut bytes)?;
+    rt.stdin().take(Table::most_read()).read_to_end(&mut bytes)?;
     let table = Table::open(&bytes);
     if let Err(fault) = table.counts() {
         println!(rt; "{fault}")?;

@@ -1,5 +1,5 @@
 -- What is known of bytes that have no fault, record by record.
-use Rattle.std.proofs.Common.{◌≡◌, ℕ, ◌<◌, ◌≤◌, Bool, true, false, eqb, leb, List, [], ◌∷◌, length, refl}
+use Rattle.std.proofs.Common.{◌≡◌, ℕ, ◌<◌, ◌≤◌, Bool, true, false, eqb, leb, List, [], ◌∷◌, length, refl, arith}
 use Rattle.format.proofs.Verdicts.{each_clean, parts}
 use Rattle.format.specs.Aggregates.{aggregate_faults, all_aggregate_faults, member_count, member_faults, members_end}
 use Rattle.layout.specs.Bytes.{word_at}
@@ -116,3 +116,24 @@ module _ (b : List ℕ) (c : Clean b) where
 
   pub areas_end : area_end b Names ≡ length b
   areas_end = eqb-true _ _ (holds _ _ _ of_header.5)
+
+-- bytes without faults are no longer than the header and all areas at their fullest
+pub few_bytes : (b : List ℕ) → accepted b ≡ true → length b < 49693
+few_bytes b ok =
+    let c = clean b ok in
+    omega (
+      arith,
+      areas_end b c,
+      area_joined b c Statements,
+      area_joined b c Rules,
+      area_joined b c Literals,
+      area_joined b c Aggregates,
+      area_joined b c Members,
+      area_joined b c Names,
+      few b c Statements,
+      few b c Rules,
+      few b c Literals,
+      few b c Aggregates,
+      few b c Members,
+      few b c Names,
+    )

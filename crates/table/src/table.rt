@@ -1,7 +1,7 @@
 ghost use Rattle.format.specs.Check.{accepted, counts_of, faults};
 ghost use Rattle.format.specs.Faults.{verdict};
 ghost use Rattle.layout.specs.Bytes.{byte_at};
-ghost use Rattle.std.specs.Prelude.{◌≡◌, ◌<◌, ◌^◌, true, [], is_ok, length, slice_index, slice_index_or};
+ghost use Rattle.std.specs.Prelude.{◌≡◌, ◌<◌, ◌^◌, ℕ, List, true, [], is_ok, length, slice_index, slice_index_or};
 ghost use Rattle.table.specs.Limits.{MemberLimits, OnlyBytes, WithinLimits, how_many};
 ghost use Rattle.table.specs.View.{ShowsAggregate, ShowsRecord, ShowsRule, aggregate_read, count_held, kind_place, member_read, name_read, no_member, rule_read, run};
 
@@ -157,6 +157,14 @@ impl<'a> Table<'a> {
             bytes,
             checked: check(bytes),
         }
+    }
+
+    // How many bytes to read of what may be a table: one more than any table has, so that nothing longer is taken for one.
+    pub fn most_read() -> u64
+        ensures value { result ≡ 49693 }
+        ensures enough { (b : List ℕ) → accepted b ≡ true → length b < result }
+    {
+        49_693
     }
 
     // How many records each area has, or the first fault of the bytes, as the check says.

@@ -1,0 +1,5 @@
+use Rattle.table.proofs.Clean.{few_bytes}
+use Rattle.table.proofs.table.Table.most_read.Goals as goal
+
+pub returns-clause-enough : goal.returns-clause-enough
+returns-clause-enough c = few_bytes
