@@ -8,3 +8,5 @@ pub mod Pruning
 pub mod Minimal
 pub mod Seeking
 pub mod Starting
+pub mod First
+pub mod Supporting

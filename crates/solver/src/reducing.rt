@@ -31,7 +31,7 @@ fn is_present(head: Literals) -> bool
 }
 
 // Whether the body of rule i is true in a row.
-fn is_body_true<F: Family>(book: &Rulebook<F>, row: &Marking, i: usize) -> bool
+pub(crate) fn is_body_true<F: Family>(book: &Rulebook<F>, row: &Marking, i: usize) -> bool
     ensures { Whole (program_in book.now).statements row.now
         → (IsTrue result ↔ BodyTrue (F.value book.now.family.now) (row_of row.now) (rule_in book.now i)) }
 {
@@ -39,7 +39,7 @@ fn is_body_true<F: Family>(book: &Rulebook<F>, row: &Marking, i: usize) -> bool
 }
 
 // Whether a row has a head statement of rule i.
-fn has_head(table: &Table, row: &Marking, i: usize) -> bool
+pub(crate) fn has_head(table: &Table, row: &Marking, i: usize) -> bool
     ensures { Whole (program_of table.now).statements row.now
         → result ≡ list_any (has (row_of row.now)) (nth_rule table.now i).head }
 {

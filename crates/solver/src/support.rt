@@ -1,0 +1,104 @@
+ghost use Rattle.judging.specs.Rulebooks.{program_in, rule_in};
+ghost use Rattle.semantics.specs.AnswerSets.{AnswerSet, Supports};
+ghost use Rattle.semantics.specs.FullMarkings.{row_of};
+ghost use Rattle.semantics.specs.Markings.{at, marked};
+ghost use Rattle.semantics.specs.declared.Mark.TheVariants.{In, Out};
+ghost use Rattle.solver.specs.Reducts.{Whole};
+ghost use Rattle.solver.specs.Support.{OnlyHead, StandsOn, by_first, row_read, support_of, supports};
+ghost use Rattle.solver.specs.declared.support.Support.TheVariants.{ByNone};
+ghost use Rattle.std.specs.Prelude.{◌≡◌, ◌≢◌, ◌==◌, ◌↔◌, IsTrue, map, position, slice_index, slice_set};
+ghost use Rattle.table.specs.Tables.{nth_rule, program_of};
+
+use super::reducing::{has_head, is_body_true};
+use family::Family;
+use judging::Rulebook;
+use marking::Marking;
+use semantics::Mark;
+use table::table::Table;
+
+// On what a statement of a row stands: on the first rule that supports it, by its number; on none, though it is in; or
+// it is not in the row.
+#[derive(Clone, Copy, PartialEq, Eq, Debug)]
+pub enum Support {
+    ByRule(usize),
+    ByNone,
+    NotIn,
+}
+
+// Whether a statement's byte is the one of those that are in.
+fn has_one(row: &[u8], statement: u16) -> bool
+    ensures { result ≡ (slice_index row.now statement == 1) }
+{
+    row.get(usize::from(statement)).copied() == Some(1)
+}
+
+// The marks of the row that bytes stand for, one a statement of the table: where its byte is 1 it is in, and else it is
+// out.
+pub fn read_row(table: &Table, bytes: &[u8]) -> Marking
+    ensures { result ≡ map marked (row_read (program_of table.now).statements bytes.now) }
+{
+    let mut row = Marking::all_open(table.statements());
+    for statement in 0..table.statements() {
+        row.set(statement, Mark::from(has_one(bytes, statement)));
+    }
+    row
+}
+
+// Whether, of the head statements of rule i, a row has this one only, which is in it: the row has one, and without this
+// one it has none.
+fn is_only_head(table: &Table, row: &Marking, statement: u16, i: usize) -> bool
+    ensures { Whole (program_of table.now).statements row.now
+        → at row.now statement ≡ In
+        → (IsTrue result ↔ OnlyHead (row_of row.now) statement (nth_rule table.now i)) }
+{
+    let others = row.with(statement, Mark::Out);
+    let one = has_head(table, row, i);
+    let more = has_head(table, &others, i);
+    one && !more
+}
+
+// Whether rule i supports a statement that is in a row.
+fn does_support<F: Family>(book: &Rulebook<F>, row: &Marking, statement: u16, i: usize) -> bool
+    ensures { Whole (program_in book.now).statements row.now
+        → at row.now statement ≡ In
+        → (IsTrue result ↔ Supports (F.value book.now.family.now) (row_of row.now) statement (rule_in book.now i)) }
+{
+    is_only_head(book.table, row, statement, i) && is_body_true(book, row, i)
+}
+
+// The first rule that supports a statement that is in a row.
+fn first_support<F: Family>(book: &Rulebook<F>, row: &Marking, statement: u16) -> Option<usize>
+    ensures { Whole (program_in book.now).statements row.now
+        → at row.now statement ≡ In
+        → result
+        ≡ position (supports (F.value book.now.family.now) (row_of row.now) statement) (program_in book.now).rules }
+{
+    (0..book.table.rules()).find(|i| does_support(book, row, statement, *i))
+}
+
+// What is said of a statement that is in, by the first rule that supports it.
+fn by_first(first: Option<usize>) -> Support
+    ensures { result ≡ by_first first }
+{
+    match first {
+        Some(i) => Support::ByRule(i),
+        None => Support::ByNone,
+    }
+}
+
+// On what a statement stands in the row that bytes stand for, one a statement of the table: where its byte is 1 it is
+// in, and else it is not. In an answer set, whatever is in stands on a rule.
+pub fn find_support<F: Family>(table: &Table, family: &F, bytes: &[u8], statement: u16) -> Support
+    ensures value { result ≡ support_of (F.value family.now) (program_of table.now)
+        (row_read (program_of table.now).statements bytes.now) statement }
+    ensures stands { StandsOn (F.value family.now) (program_of table.now)
+        (row_read (program_of table.now).statements bytes.now) statement result }
+    ensures answer_set { AnswerSet (F.value family.now) (program_of table.now)
+        (row_read (program_of table.now).statements bytes.now) → result ≢ ByNone }
+{
+    let row = read_row(table, bytes);
+    if row.mark(statement) != Mark::In {
+        return Support::NotIn;
+    }
+    by_first(first_support(&Rulebook { table, family }, &row, statement))
+}
