@@ -10,7 +10,7 @@ use Rattle.std.specs.List.{range_with_len}
 use Rattle.std.specs.declared.fmt.Formatter.{Formatter}
 
 -- two rows, one after the other
-joined_rows : (sign : List ℕ) (xs ys : List (List ℕ)) → joined sign (xs ++ ys) ≡ joined sign xs ++ (between sign xs ys ++ joined sign ys)
+pub joined_rows : (sign : List ℕ) (xs ys : List (List ℕ)) → joined sign (xs ++ ys) ≡ joined sign xs ++ (between sign xs ys ++ joined sign ys)
 joined_rows sign [] ys = refl
 joined_rows sign (x ∷ []) [] = sym (append-nil x)
 joined_rows sign (x ∷ []) (y ∷ ys) = refl

@@ -3,7 +3,7 @@ use Rattle.std.proofs.Common.{◌≡◌, ℕ, zero, suc, ◌+◌, ◌-◌, ◌<�
 use Rattle.notation.proofs.Joining.{sign_mapped, two_rows}
 use Rattle.notation.specs.Pieces.{aggregate_piece, between, body_run, head_pieces, literal_piece, member_piece, places, premise_pieces}
 use Rattle.notation.specs.Text.{aggregate_text, joined, kind_text, member_text, name_text, not_text, premises, rule_text, sign_text}
-use Rattle.std.proofs.lemmas.List.{drop_more}
+use Rattle.std.proofs.lemmas.List.{drop_more, map-id}
 use Rattle.std.proofs.lemmas.Bool.{cond_above, cond_below}
 use Rattle.std.specs.List.{range_with_len}
 use Rattle.std.specs.Fmt.{signed_decimal}
@@ -27,6 +27,12 @@ pub texts_at : {X : Type 0} {all xs : List X} {r : Run} (f : X → List ℕ) (p 
 texts_at {all} {xs} {r} f p d v at =
     mapped_part f p d all r.first (r.end - r.first) (omega (arith, v.forward, v.inside)) (λ k l m. at k l (omega (arith, v.forward)))
     ∙ sym (ap (map f) v.part)
+
+-- what stands at the places of a run is what the run shows
+pub parts_at : {X : Type 0} {all xs : List X} {r : Run} (d : X) → Covers all xs r → map (λ k. get_or all k d) (places r) ≡ xs
+parts_at {X} {all} {xs} {r} d v =
+    mapped_part (λ x. x) (λ k. get_or all k d) d all r.first (r.end - r.first) (omega (arith, v.forward, v.inside)) (λ k l m. refl)
+    ∙ map-id (slice r.first (r.end - r.first) all) ∙ sym v.part
 
 pub aggregate_shown : (c : Contents) (g : Aggregate) (v : AggregateView) (bound : ℤ) → ShowsAggregate c g v → bound ≡ v.bound → kind_text v.kind ++ (codes "{" ++ (joined (codes ", ") (map (member_piece c) (places v.members)) ++ (codes "} " ++ (relation_text v.relation ++ (codes " " ++ signed_decimal bound))))) ≡ aggregate_text c.names g
 aggregate_shown c g v bound shows e =

@@ -1,4 +1,5 @@
 pub mod Text
+pub mod Grounds
 pub mod Pieces
 pub mod Shown
 pub mod Marks

@@ -50,9 +50,9 @@ impl<'a> Pieces for Literals<'a> {
 
 // A statement of an aggregate with its weight.
 #[derive(Clone, Copy)]
-struct Weighed<'a> {
-    name: &'a str,
-    weight: i32,
+pub(crate) struct Weighed<'a> {
+    pub name: &'a str,
+    pub weight: i32,
 }
 
 impl fmt::Display for Weighed<'_> {
