@@ -4,3 +4,4 @@ pub mod Bytes
 pub mod Ledgers
 pub mod Made
 pub mod Refused
+pub mod Reasons

@@ -1,13 +1,13 @@
 -- What a chain of checks refuses, and what comes where it does not.
-use Rattle.std.proofs.Common.{nat_le, Option, ◌≡◌, ℕ, ◌≤◌, Bool, true, false, List, [], ◌∷◌, ◌++◌, length, nat_eq, IsErrAnd, Ok, Err, Result, refl, sym, ap, ◌∙◌, subst, arith}
+use Rattle.std.proofs.Common.{nat_le, nat_lt, Option, ◌≡◌, ℕ, ◌≤◌, Bool, true, false, List, [], ◌∷◌, ◌++◌, length, nat_eq, IsErrAnd, Ok, Err, Result, refl, sym, ap, ◌∙◌, subst, arith}
 use Rattle.format.proofs.Verdicts.{clean, parts}
 use Rattle.format.specs.Check.{accepted}
 use Rattle.format.specs.Faults.{unless, verdict}
 use Rattle.kinds.specs.Lacking.{lacking}
 use Rattle.refusal.specs.declared.Fault.{Fault}
 use Rattle.refusal.specs.declared.Refusal.{Refusal}
-use Rattle.refusal.specs.declared.Refusal.TheVariants.{PartTooShort, ReportTooShort, StatementsDiffer, TableUnopened}
-use Rattle.sheet.specs.Outcomes.{FirstOr, Reports, Stays, part_faults, reporting_faults, table_faults, writing_faults}
+use Rattle.refusal.specs.declared.Refusal.TheVariants.{PartTooShort, ReportTooShort, StatementsDiffer, TableUnopened, UnknownStatement}
+use Rattle.sheet.specs.Outcomes.{FirstOr, Reports, Stays, part_faults, reporting_faults, table_faults, weighing_faults, why_faults, writing_faults}
 use Rattle.std.proofs.lemmas.Bool.{eqb-true, leb-true}
 use Rattle.table.specs.Contents.{contents, program}
 use Rattle.lines.specs.Reports.{Reports as Writes}
@@ -63,6 +63,12 @@ module _ (kinds : ℕ) (b : List ℕ) (n : ℕ) where
   -- a table that is not refused is of as many statements as the sheet
   pub same_statements : (more : List Fault) → Ok (tt {0}) ≡ verdict (table_faults kinds b n ++ more) (tt {0}) → length (contents b).names ≡ n
   same_statements more h = table_same (parts (table_faults kinds b n) more (clean _ (tt {0}) (tt {0}) (sym h))).0
+
+  -- and so where it is not refused to tell on what a statement stands
+  pub why_statements : (q : ℕ) (row : List ℕ) → why_faults kinds b n q row ≡ [] → length (contents b).names ≡ n
+  why_statements q row e =
+      let weighed = (parts (weighing_faults kinds b n q) (part_faults n row) e).0 in
+      table_same (parts (table_faults kinds b n) (unless (nat_lt q n) UnknownStatement q) weighed).0
 
   -- a part that is not refused has a byte for each statement of the table
   pub part_fits : (part : List ℕ) → length (contents b).names ≡ n → Ok (tt {0}) ≡ verdict (part_faults n part) (tt {0}) → length (contents b).names ≤ length part

@@ -21,7 +21,9 @@ use Rattle.sheet.specs.declared.visits.Drawing.TheVariants.{Clash, Settled}
 use Rattle.lines.specs.Reports.{Written}
 use Rattle.notation.specs.Accounts.{account_text}
 use Rattle.solver.specs.Accounts.{SeeksFor, WeighsFor, marks_of}
+use Rattle.solver.specs.Support.{StandsOn, row_read, support_of}
 use Rattle.solver.specs.declared.account.Account.{Account}
+use Rattle.solver.specs.declared.support.Support.{Support}
 use Rattle.solver.specs.declared.weighing.Weighing.{Weighing}
 use Rattle.table.specs.Contents.{contents, program}
 
@@ -125,9 +127,23 @@ module _ (kinds : ℕ) (b : List ℕ) (n : ℕ) where
   abbrev pub weighing_faults : ℕ → List Fault
   weighing_faults q = table_faults ++ unless (nat_lt q n) UnknownStatement q
 
+  -- why it is not told on what statement q stands in a row: these, and 31
+  abbrev pub why_faults : ℕ → List ℕ → List Fault
+  why_faults q row = weighing_faults q ++ part_faults n row
+
   -- why a finding of statement q is not supposed where these stand
   abbrev pub supposing_faults : List Finding → ℕ → List ℕ → List Fault
   supposing_faults fs q part = (table_faults ++ entering_faults n fs q) ++ part_faults n part
+
+-- on that table under that family, with these values
+module _ (kinds : ℕ) (value : Values) (b : List ℕ) (n : ℕ) where
+  -- it is told on what statement q stands in the row that bytes stand for, whatever stands on the sheet
+  abbrev pub WhyOutcome : ℕ → List ℕ → Result Support Fault → Type 0
+  WhyOutcome q row r = FirstOr (why_faults kinds b n q row) (StandsOn value (program (contents b)) (row_read n row) q) r
+
+  -- the same, as a function of the bytes
+  abbrev pub why_answer : ℕ → List ℕ → Result Support Fault
+  why_answer q row = verdict (why_faults kinds b n q row) (support_of value (program (contents b)) (row_read n row) q)
 
 -- on that table under that family, with these values, where these findings stand on the sheet
 module _ (kinds : ℕ) (value : Values) (b : List ℕ) (n : ℕ) (fs : List Finding) where

@@ -1,5 +1,5 @@
 ghost use Rattle.format.specs.Faults.{verdict};
-ghost use Rattle.sheet.specs.Outcomes.{DrawOutcome, SeekOutcome, WeighOutcome, part_faults, table_faults, weighing_faults, writing_faults};
+ghost use Rattle.sheet.specs.Outcomes.{DrawOutcome, SeekOutcome, WeighOutcome, part_faults, table_faults, weighing_faults, why_answer, why_faults, writing_faults};
 ghost use Rattle.sheet.specs.Sheets.{standing};
 ghost use Rattle.std.specs.Prelude.{◌≡◌};
 
@@ -10,7 +10,7 @@ use family::Family;
 use format::fault::demand;
 use kinds::check_kinds;
 use refusal::{Fault, Refusal};
-use solver::Weighing;
+use solver::{Support, Weighing, find_support};
 use table::table::Table;
 
 // Refuses a part that has not a byte for each statement.
@@ -58,6 +58,21 @@ impl Sheet {
         demand(known, Refusal::UnknownStatement, usize::from(statement))
     }
 
+    // Refuses a statement or a row of which it can't be told on what the statement stands.
+    fn check_why<F: Family>(
+        &self,
+        table: &Table,
+        family: &F,
+        statement: u16,
+        row: &[u8],
+    ) -> Result<(), Fault>
+        ensures { result ≡ verdict (why_faults (F.size family.now) table.now.bytes.now
+            self.now.statements statement row.now) tt }
+    {
+        self.check_weighing(table, family, statement)?;
+        check_part(self.statements, row)
+    }
+
     // Draws what the standing findings force, and writes it, unless it is refused.
     pub(crate) fn drawn<F: Family>(
         &self,
@@ -98,5 +113,20 @@ impl Sheet {
     {
         self.check_weighing(table, family, statement)?;
         Ok(weighing(table, family, self.findings(), statement))
+    }
+
+    // Tells on what a statement of a row stands, unless it is refused.
+    pub(crate) fn explained<F: Family>(
+        &self,
+        table: &Table,
+        family: &F,
+        statement: u16,
+        row: &[u8],
+    ) -> Result<Support, Fault>
+        ensures { result ≡ why_answer (F.size family.now) (F.value family.now) table.now.bytes.now
+            self.now.statements statement row.now }
+    {
+        self.check_why(table, family, statement, row)?;
+        Ok(find_support(table, family, row, statement))
     }
 }

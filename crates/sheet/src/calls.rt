@@ -1,21 +1,25 @@
+ghost use Rattle.semantics.specs.declared.Finding.{Finding};
 ghost use Rattle.sheet.specs.Law.{Law, LawOfAll, answer_of};
 ghost use Rattle.sheet.specs.Ledger.{after};
-ghost use Rattle.sheet.specs.Outcomes.{DrawOutcome, Enters, SeekOutcome, SupposeOutcome, WeighOutcome, Withdraws};
+ghost use Rattle.sheet.specs.Outcomes.{DrawOutcome, Enters, FoundTo, SeekOutcome, SupposeOutcome, WeighOutcome, WhyOutcome, Withdraws, why_answer};
 ghost use Rattle.sheet.specs.Sheets.{standing};
 ghost use Rattle.sheet.specs.declared.visits.Answer.TheVariants.{Drawn, Entered, Sought, Weighed, Withdrawn};
 ghost use Rattle.sheet.specs.declared.visits.Visit.TheVariants.{Draw, Enter, Seek, Suppose, Weigh, Withdraw};
-ghost use Rattle.std.specs.Prelude.{◌≡◌, []};
+ghost use Rattle.solver.specs.declared.support.Support.TheVariants.{ByNone};
+ghost use Rattle.std.specs.Prelude.{◌≡◌, ◌≢◌, ℕ, List, Ok, []};
+ghost use Rattle.table.specs.Tables.{program_of};
 
 use super::sheet::Sheet;
 use super::visits::Drawing;
 use family::Family;
 use refusal::Fault;
 use semantics::Finding;
-use solver::Weighing;
+use solver::{Support, Weighing};
 use table::table::Table;
 
-// The calls on an open sheet. Each promises what it comes to where these findings stand, and the law: whatever visits
-// led to them, it comes to what the ledger of those visits demands, and leaves the ledger with this visit.
+// The calls on an open sheet. Each but `why`, which asks of a row and not of findings, promises what it comes to where
+// these findings stand, and the law: whatever visits led to them, it comes to what the ledger of those visits demands,
+// and leaves the ledger with this visit.
 impl Sheet {
     // Enters a finding behind those that stand.
     pub fn enter(&mut self, finding: Finding) -> Result<(), Fault>
@@ -84,6 +88,28 @@ impl Sheet {
             (standing self.now) (standing self.now) (Weigh statement) [] [] (answer_of Weighed result) }
     {
         self.weighed(table, family, statement)
+    }
+
+    // Tells on what a statement of a row stands: on the first rule of the table that supports it, on none, or that it
+    // is not in. A row has a byte for each statement, as seeking writes them: 1 where it is in; where it is any other,
+    // it is not. It is the same whatever stands on the sheet. In an account that seeking wrote, whatever is in stands
+    // on a rule.
+    pub fn why<F: Family>(
+        &self,
+        table: &Table,
+        family: &F,
+        statement: u16,
+        row: &[u8],
+    ) -> Result<Support, Fault>
+        ensures outcome { WhyOutcome (F.size family.now) (F.value family.now) table.now.bytes.now
+            self.now.statements statement row.now result }
+        ensures value { result ≡ why_answer (F.size family.now) (F.value family.now) table.now.bytes.now
+            self.now.statements statement row.now }
+        ensures account { (fs : List Finding) (part : List ℕ) (many : ℕ)
+            → FoundTo (F.value family.now) (program_of table.now) fs part row.now many
+            → result ≢ Ok ByNone }
+    {
+        self.explained(table, family, statement, row)
     }
 
     // Seeks with one finding more, which no longer stands when this is done.

@@ -1,12 +1,15 @@
 ghost use Rattle.format.specs.Faults.{verdict};
+ghost use Rattle.semantics.specs.declared.Finding.{Finding};
 ghost use Rattle.sheet.specs.Law.{Law, answer_of};
-ghost use Rattle.sheet.specs.Outcomes.{DrawOutcome, ReportOutcome, SeekOutcome, WeighOutcome, reporting_faults};
+ghost use Rattle.sheet.specs.Outcomes.{DrawOutcome, FoundTo, ReportOutcome, SeekOutcome, WeighOutcome, WhyOutcome, reporting_faults, why_answer};
 ghost use Rattle.sheet.specs.Sheets.{standing};
 ghost use Rattle.sheet.specs.Theorems.{IsLedger};
 ghost use Rattle.sheet.specs.declared.visits.Answer.TheVariants.{Drawn, Sought, Weighed};
 ghost use Rattle.sheet.specs.declared.visits.Visit.TheVariants.{Draw, Seek, Weigh};
 ghost use Rattle.solver.specs.Accounts.{marks_of};
-ghost use Rattle.std.specs.Prelude.{◌≡◌, []};
+ghost use Rattle.solver.specs.declared.support.Support.TheVariants.{ByNone};
+ghost use Rattle.std.specs.Prelude.{◌≡◌, ◌≢◌, ℕ, List, Ok, []};
+ghost use Rattle.table.specs.Tables.{program_of};
 
 use super::sheet::Sheet;
 use super::visits::Drawing;
@@ -17,7 +20,7 @@ use lines::write_account;
 use marking::Marking;
 use refusal::{Fault, Refusal};
 use semantics::Finding;
-use solver::{Account, Weighing};
+use solver::{Account, Support, Weighing};
 use table::table::Table;
 
 // A signed sheet: nothing is entered on it or withdrawn from it any more.
@@ -102,6 +105,25 @@ impl SignedSheet {
             (standing self.now.sheet) (standing self.now.sheet) (Weigh statement) [] [] (answer_of Weighed result) }
     {
         self.sheet.weigh(table, family, statement)
+    }
+
+    // Tells on what a statement of a row stands, as on an open sheet.
+    pub fn why<F: Family>(
+        &self,
+        table: &Table,
+        family: &F,
+        statement: u16,
+        row: &[u8],
+    ) -> Result<Support, Fault>
+        ensures outcome { WhyOutcome (F.size family.now) (F.value family.now) table.now.bytes.now
+            self.now.sheet.statements statement row.now result }
+        ensures value { result ≡ why_answer (F.size family.now) (F.value family.now) table.now.bytes.now
+            self.now.sheet.statements statement row.now }
+        ensures account { (fs : List Finding) (part : List ℕ) (many : ℕ)
+            → FoundTo (F.value family.now) (program_of table.now) fs part row.now many
+            → result ≢ Ok ByNone }
+    {
+        self.sheet.why(table, family, statement, row)
     }
 
     // Refuses what can't be reported in a part.
