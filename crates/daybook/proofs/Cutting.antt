@@ -10,7 +10,7 @@ use Rattle.std.specs.List.{All, AllPass, slice_split}
 use Rattle.std.specs.Option.{some_prefix}
 use Rattle.std.specs.Str.{NoCharPasses}
 use Rattle.std.specs.Str.Iter.{CutsAsciiWord, IsAsciiSeparator}
-use Rattle.daybook.specs.Visits.{result_map, visit_if_any, visit_of}
+use Rattle.daybook.specs.Requests.{result_map, request_if_any, request_of}
 use Rattle.daybook.specs.Words.{words_of}
 use denote.Ref.{Bor}
 
@@ -65,16 +65,16 @@ four_cut w0 w1 w2 w3 w4 (Some x) (Some y) None r4 a b c d = rw (a, b, c) refl
 four_cut w0 w1 w2 w3 w4 (Some x) (Some y) (Some z) None a b c d = rw (a, b, c, d) refl
 four_cut w0 w1 w2 w3 w4 (Some x) (Some y) (Some z) (Some w) a b c d = rw (a, b, c, d) refl
 
--- a visit has no more than three words, so four tell which it is
-pub four_tell : (names : List (List ℕ)) (words : List (List ℕ)) → visit_if_any names (take 4 words) ≡ visit_if_any names words
+-- a request has no more than three words, so four tell which it is
+pub four_tell : (names : List (List ℕ)) (words : List (List ℕ)) → request_if_any names (take 4 words) ≡ request_if_any names words
 four_tell names [] = refl
 four_tell names (a ∷ []) = refl
 four_tell names (a ∷ b ∷ []) = refl
 four_tell names (a ∷ b ∷ c ∷ []) = refl
 four_tell names (a ∷ b ∷ c ∷ d ∷ more) = refl
 
--- where there is a first word, a visit is asked for
-pub any_word : (names : List (List ℕ)) (words : List (Option (Bor (List ℕ)))) (x : Bor (List ℕ)) → get_or words 0 None ≡ Some x → result_map Some (visit_of names (map (λ word. word.now) (some_prefix words))) ≡ visit_if_any names (map (λ word. word.now) (some_prefix words))
+-- where there is a first word, something is asked for
+pub any_word : (names : List (List ℕ)) (words : List (Option (Bor (List ℕ)))) (x : Bor (List ℕ)) → get_or words 0 None ≡ Some x → result_map Some (request_of names (map (λ word. word.now) (some_prefix words))) ≡ request_if_any names (map (λ word. word.now) (some_prefix words))
 any_word names [] x e = cc
 any_word names (None ∷ words) x e = cc
 any_word names (Some word ∷ words) x e = refl

@@ -1,5 +1,4 @@
 pub mod Cutting
-pub mod Finding
 pub mod StatementLines
 pub mod DayLemmas
 pub mod Worked

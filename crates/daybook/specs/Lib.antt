@@ -1,6 +1,8 @@
 pub mod Words
-pub mod Visits
+pub mod Requests
 pub mod Telling
 pub mod Standing
+pub mod Rows
+pub mod Reasons
 pub mod Days
 pub mod Examples

@@ -1,23 +1,35 @@
-ghost use Rattle.daybook.specs.Days.{day_text, entries_left, entry_view, line_text, lines_added, lines_noted, unmade_view, unmade_views, visit_line, visits_added};
-ghost use Rattle.daybook.specs.Visits.{visit_read};
-ghost use Rattle.std.specs.Prelude.{◌≡◌, ◌++◌, [], ◌∷◌, IfOk, OnOk, map, string_bytes};
+ghost use Rattle.daybook.specs.Days.{day_text, entries_left, entry_view, found_after, latest, line, line_text, lines_added, lines_noted, unless_sought, unmade_view, unmade_views, visits_added};
+ghost use Rattle.daybook.specs.Requests.{request_read};
+ghost use Rattle.daybook.specs.Rows.{found_seen};
+ghost use Rattle.daybook.specs.declared.days.Content.TheVariants.{Visit as AVisit};
+ghost use Rattle.std.specs.Prelude.{◌≡◌, ◌++◌, [], ◌∷◌, IfOk, None, OnOk, map, string_bytes};
 ghost use Rattle.std.specs.Slice.Iter.{iter_rest};
 ghost use Rattle.std.specs.Str.Lines.{lines};
 ghost use Rattle.table.specs.Tables.{contents_of};
 
-use super::reading::{Mistake, read_visit};
+use super::reading::{Mistake, Request, read_request};
+use super::reasons::{Found, Setting};
 use super::telling::Told;
-use sheet::{Entry, Visit};
+use family::Family;
+use sheet::{Answer, Entry, Sheet, Visit};
 use std::alloc::{AllocError, Global};
 use std::slice::Iter;
 use table::table::Table;
 
-// A line of a journal that is not passed over, by its number from 1 on. It is a visit, whose entry is the next one of
-// the day, or there is a mistake in it.
+// What is in a line of a journal: a visit, whose entry is the next one of the day; on what a statement of the latest
+// account stands; or a mistake.
+#[derive(Clone, Copy, PartialEq, Eq, Debug)]
+pub enum Content {
+    Visit,
+    Why(u16),
+    Mistake(Mistake),
+}
+
+// A line of a journal that is not passed over, by its number from 1 on.
 #[derive(Clone, Copy, PartialEq, Eq, Debug)]
 pub struct Line {
     pub number: usize,
-    pub mistake: Option<Mistake>,
+    pub content: Content,
 }
 
 // The lines of a journal with the entries of their visits.
@@ -35,15 +47,19 @@ impl Day {
         number: usize,
         visit: Visit,
     ) -> Result<(), AllocError>
-        ensures lines { OnOk result (self.new.lines.items ≡ self.old.lines.items ++ visit_line number ∷ []) }
+        ensures lines { OnOk result (self.new.lines.items ≡ self.old.lines.items ++ line number AVisit ∷ []) }
         ensures entries { OnOk result (map entry_view self.new.entries.items
             ≡ map entry_view self.old.entries.items ++ unmade_view (contents_of table.now).names visit ∷ []) }
     {
         self.entries.push(unmade_entry(heap, table, visit)?)?;
-        self.lines.push(Line {
-            number,
-            mistake: None,
-        })?;
+        self.push_line(number, Content::Visit)
+    }
+
+    fn push_line(&mut self, number: usize, content: Content) -> Result<(), AllocError>
+        ensures lines { OnOk result (self.new.lines.items ≡ self.old.lines.items ++ line number content ∷ []) }
+        ensures entries { self.new.entries ≡ self.old.entries }
+    {
+        self.lines.push(Line { number, content })?;
         Ok(())
     }
 
@@ -56,18 +72,16 @@ impl Day {
         line: &str,
     ) -> Result<(), AllocError>
         ensures lines { OnOk result (self.new.lines.items ≡ self.old.lines.items
-            ++ lines_added number (visit_read (contents_of table.now).names line.now)) }
+            ++ lines_added number (request_read (contents_of table.now).names line.now)) }
         ensures entries { OnOk result (map entry_view self.new.entries.items ≡ map entry_view self.old.entries.items
-            ++ map (unmade_view (contents_of table.now).names) (visits_added (visit_read (contents_of table.now).names line.now))) }
+            ++ map (unmade_view (contents_of table.now).names)
+            (visits_added (request_read (contents_of table.now).names line.now))) }
     {
-        match read_visit(table, line) {
+        match read_request(table, line) {
             Ok(None) => Ok(()),
-            Ok(Some(visit)) => self.push_visit(heap, table, number, visit),
-            Err(mistake) => {
-                let mistake = Some(mistake);
-                self.lines.push(Line { number, mistake })?;
-                Ok(())
-            }
+            Ok(Some(Request::Visit(visit))) => self.push_visit(heap, table, number, visit),
+            Ok(Some(Request::Why(statement))) => self.push_line(number, Content::Why(statement)),
+            Err(mistake) => self.push_line(number, Content::Mistake(mistake)),
         }
     }
 
@@ -88,44 +102,99 @@ impl Day {
         Ok(day)
     }
 
-    // The day as it is printed.
-    pub fn text(&self, heap: Global, table: &Table) -> Result<String, AllocError>
+    // The day as it is printed, when its visits have been made on the sheet.
+    pub fn text<F: Family>(
+        &self,
+        heap: Global,
+        table: &Table,
+        family: &F,
+        sheet: &Sheet,
+    ) -> Result<String, AllocError>
         ensures { IfOk result (λ s. string_bytes s
-            ≡ day_text (contents_of table.now).names self.now.lines.items self.now.entries.items) }
+            ≡ day_text (F.size family.now) (F.value family.now) table.now.bytes.now sheet.now.statements
+            None self.now.lines.items self.now.entries.items) }
     {
+        let setting = Setting {
+            table,
+            family,
+            sheet,
+        };
         let mut text = String::new(heap);
         let mut entries = self.entries.iter();
+        let mut found = None;
         for line in &self.lines {
-            push_line(&mut text, table, *line, &mut entries)?;
+            found = setting.tell_line(heap, &mut text, *line, &mut entries, found)?;
         }
         Ok(text)
     }
 }
 
-// Adds a line as it is printed: its mistake, or the first entry that is left, if one is.
-fn push_line(
-    text: &mut String,
-    table: &Table,
-    line: Line,
-    entries: &mut Iter<Entry>,
-) -> Result<(), AllocError>
-    ensures text { OnOk result (string_bytes text.new ≡ string_bytes text.old
-        ++ line_text (contents_of table.now).names line.number line.mistake (iter_rest entries.old)) }
-    ensures entries { OnOk result (iter_rest entries.new ≡ entries_left line.mistake (iter_rest entries.old)) }
+// An account that was found, unless it was sought in vain since.
+fn unless_sought(visit: Visit, found: Option<Found>) -> Option<Found>
+    ensures { found_seen result ≡ unless_sought visit (found_seen found.entry) }
 {
-    let (table, number) = (*table, line.number);
-    if let Some(mistake) = line.mistake {
-        return writeln!(text, "{number}. {mistake}");
+    match visit {
+        Visit::Seek => None,
+        _ => found,
     }
-    let Some(entry) = entries.next() else {
-        return Ok(());
-    };
-    let told = Told {
-        table,
-        number,
-        entry,
-    };
-    write!(text, "{told}")
+}
+
+// The account that was found last: by the entry of this line, or before.
+fn latest<'a>(number: usize, entry: &'a Entry, found: Option<Found<'a>>) -> Option<Found<'a>>
+    ensures { found_seen result
+        ≡ latest number entry.now.visit entry.now.part.items (found_seen found.entry) entry.now.answer }
+{
+    match entry.answer {
+        Some(Ok(Answer::Sought(Some(_)))) => Some(Found {
+            line: number,
+            row: &entry.part,
+        }),
+        Some(Ok(Answer::Sought(None))) => unless_sought(entry.visit, found),
+        _ => found,
+    }
+}
+
+impl<F: Family> Setting<'_, F> {
+    // Adds a line as it is printed: what came of the first entry that is left, if one is; on what a statement of the
+    // latest account stands; or its mistake. It gives the account that is the latest then.
+    fn tell_line<'a>(
+        &self,
+        heap: Global,
+        text: &mut String,
+        line: Line,
+        entries: &mut Iter<'a, Entry>,
+        found: Option<Found<'a>>,
+    ) -> Result<Option<Found<'a>>, AllocError>
+        ensures text { OnOk result (string_bytes text.new ≡ string_bytes text.old
+            ++ line_text (F.size self.now.family.now) (F.value self.now.family.now) self.now.table.now.bytes.now
+            self.now.sheet.now.statements line.number line.content (found_seen found.entry) (iter_rest entries.old)) }
+        ensures entries { OnOk result (iter_rest entries.new ≡ entries_left line.content (iter_rest entries.old)) }
+        ensures found { IfOk result (λ r. found_seen r
+            ≡ found_after line.number line.content (found_seen found.entry) (iter_rest entries.old)) }
+    {
+        let number = line.number;
+        match line.content {
+            Content::Visit => {
+                let Some(entry) = entries.next() else {
+                    return Ok(found);
+                };
+                let table = *self.table;
+                write!(
+                    text,
+                    "{}",
+                    Told {
+                        table,
+                        number,
+                        entry
+                    }
+                )?;
+                return Ok(latest(number, entry, found));
+            }
+            Content::Why(statement) => self.push_why(heap, text, number, statement, found)?,
+            Content::Mistake(mistake) => writeln!(text, "{number}. {mistake}")?,
+        }
+        Ok(found)
+    }
 }
 
 // The entry of a visit that has not been made.
@@ -143,6 +212,7 @@ fn unmade_entry(heap: Global, table: &Table, visit: Visit) -> Result<Entry, Allo
 #[cfg(test)]
 mod tests {
     use super::*;
+    use house::House;
     use std::test::Fail;
 
     // No clause says that there is memory: this journal is read, and printed again.
@@ -154,10 +224,10 @@ mod tests {
             &table,
             "draw\n# remark\n\n weigh a\npolish\r\nseek",
         )?;
-        let text = day.text(rt.alloc(), &table)?;
+        let text = day.text(rt.alloc(), &table, &House, &Sheet::begin(&table))?;
         let want = "1. draw: not asked yet\n\
             4. the table has no statement of this name\n\
-            5. this is no visit\n\
+            5. this is neither a visit nor a question\n\
             6. seek: not asked yet\n";
         assert_eq!(rt; text.as_str(), want);
         Ok(())

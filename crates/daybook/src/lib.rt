@@ -2,10 +2,11 @@
 
 mod days;
 mod reading;
+mod reasons;
 mod standing;
 mod telling;
 mod theorems;
 
-pub use days::{Day, Line};
-pub use reading::{Mistake, find_statement, read_visit};
+pub use days::{Content, Day, Line};
+pub use reading::{Mistake, Request, find_statement, read_request};
 pub use standing::standing_text;

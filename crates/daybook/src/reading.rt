@@ -1,4 +1,4 @@
-ghost use Rattle.daybook.specs.Visits.{finding_of, is_remark, known_statement, mistake_text, statement_of, visit_alone, visit_if_any, visit_of, visit_of_finding, visit_of_statement, visit_read};
+ghost use Rattle.daybook.specs.Requests.{finding_of, is_remark, known_statement, mistake_text, request_alone, request_if_any, request_of, request_of_finding, request_of_statement, request_read, statement_of};
 ghost use Rattle.daybook.specs.Words.{words_of};
 ghost use Rattle.notation.specs.Text.{name_text};
 ghost use Rattle.std.specs.Option.{some_prefix};
@@ -11,10 +11,17 @@ use std::error::Error;
 use std::fmt;
 use table::table::Table;
 
+// What a line of a journal asks for: a visit to the sheet, or on what a statement of the latest account stands.
+#[derive(Clone, Copy, PartialEq, Eq, Debug)]
+pub enum Request {
+    Visit(Visit),
+    Why(u16),
+}
+
 // What is wrong with a line of a journal.
 #[derive(Clone, Copy, PartialEq, Eq, Debug)]
 pub enum Mistake {
-    NoVisit,
+    NoRequest,
     UnknownName,
 }
 
@@ -23,7 +30,7 @@ impl fmt::Display for Mistake {
 
     fn fmt<W: fmt::Write>(&self, f: &mut fmt::Formatter<W>) -> fmt::Result {
         f.write_str(match self {
-            Mistake::NoVisit => "this is no visit",
+            Mistake::NoRequest => "this is neither a visit nor a question",
             Mistake::UnknownName => "the table has no statement of this name",
         })
     }
@@ -57,13 +64,13 @@ fn read_finding(table: &Table, name: &str, state: &str) -> Result<Finding, Mista
     let present = match state {
         "in" => true,
         "out" => false,
-        _ => return Err(Mistake::NoVisit),
+        _ => return Err(Mistake::NoRequest),
     };
     let statement = known_statement(table, name)?;
     Ok(Finding { statement, present })
 }
 
-// The first words of a line, one more than the longest visit has.
+// The first words of a line, one more than the longest request has.
 fn first_words(line: &str) -> [Option<&str>; 4]
     ensures { map (λ word. word.now) (some_prefix result) ≡ take 4 (words_of line.now) }
 {
@@ -71,55 +78,62 @@ fn first_words(line: &str) -> [Option<&str>; 4]
     [words.next(), words.next(), words.next(), words.next()]
 }
 
-fn visit_alone(verb: &str) -> Result<Visit, Mistake>
-    ensures { result ≡ visit_alone verb.now }
+fn request_alone(verb: &str) -> Result<Request, Mistake>
+    ensures { result ≡ request_alone verb.now }
 {
     match verb {
-        "withdraw" => Ok(Visit::Withdraw),
-        "draw" => Ok(Visit::Draw),
-        "seek" => Ok(Visit::Seek),
-        _ => Err(Mistake::NoVisit),
+        "withdraw" => Ok(Request::Visit(Visit::Withdraw)),
+        "draw" => Ok(Request::Visit(Visit::Draw)),
+        "seek" => Ok(Request::Visit(Visit::Seek)),
+        _ => Err(Mistake::NoRequest),
     }
 }
 
-fn visit_of_statement(table: &Table, verb: &str, name: &str) -> Result<Visit, Mistake>
-    ensures { result ≡ visit_of_statement (contents_of table.now).names verb.now name.now }
+fn request_of_statement(table: &Table, verb: &str, name: &str) -> Result<Request, Mistake>
+    ensures { result ≡ request_of_statement (contents_of table.now).names verb.now name.now }
 {
     match verb {
-        "weigh" => known_statement(table, name).map(Visit::Weigh),
-        _ => Err(Mistake::NoVisit),
+        "weigh" => Ok(Request::Visit(Visit::Weigh(known_statement(table, name)?))),
+        "why" => Ok(Request::Why(known_statement(table, name)?)),
+        _ => Err(Mistake::NoRequest),
     }
 }
 
-fn visit_of_finding(table: &Table, verb: &str, name: &str, state: &str) -> Result<Visit, Mistake>
-    ensures { result ≡ visit_of_finding (contents_of table.now).names verb.now name.now state.now }
+fn request_of_finding(
+    table: &Table,
+    verb: &str,
+    name: &str,
+    state: &str,
+) -> Result<Request, Mistake>
+    ensures { result ≡ request_of_finding (contents_of table.now).names verb.now name.now state.now }
 {
     match verb {
-        "enter" => read_finding(table, name, state).map(Visit::Enter),
-        "suppose" => read_finding(table, name, state).map(Visit::Suppose),
-        _ => Err(Mistake::NoVisit),
+        "enter" => Ok(Request::Visit(Visit::Enter(read_finding(table, name, state)?))),
+        "suppose" => Ok(Request::Visit(Visit::Suppose(read_finding(table, name, state)?))),
+        _ => Err(Mistake::NoRequest),
     }
 }
 
-// The visit that is written in these words.
-fn visit_of(table: &Table, words: [Option<&str>; 4]) -> Result<Visit, Mistake>
-    ensures { result ≡ visit_of (contents_of table.now).names (map (λ word. word.now) (some_prefix words.entry)) }
+// What is asked for in these words.
+fn request_of(table: &Table, words: [Option<&str>; 4]) -> Result<Request, Mistake>
+    ensures { result ≡ request_of (contents_of table.now).names (map (λ word. word.now) (some_prefix words.entry)) }
 {
     match words {
-        [Some(verb), None, ..] => visit_alone(verb),
-        [Some(verb), Some(name), None, _] => visit_of_statement(table, verb, name),
-        [Some(verb), Some(name), Some(state), None] => visit_of_finding(table, verb, name, state),
-        _ => Err(Mistake::NoVisit),
+        [Some(verb), None, ..] => request_alone(verb),
+        [Some(verb), Some(name), None, _] => request_of_statement(table, verb, name),
+        [Some(verb), Some(name), Some(state), None] => request_of_finding(table, verb, name, state),
+        _ => Err(Mistake::NoRequest),
     }
 }
 
 // None where there are no words.
-fn visit_if_any(table: &Table, words: [Option<&str>; 4]) -> Result<Option<Visit>, Mistake>
-    ensures { result ≡ visit_if_any (contents_of table.now).names (map (λ word. word.now) (some_prefix words.entry)) }
+fn request_if_any(table: &Table, words: [Option<&str>; 4]) -> Result<Option<Request>, Mistake>
+    ensures { result
+        ≡ request_if_any (contents_of table.now).names (map (λ word. word.now) (some_prefix words.entry)) }
 {
     match words {
         [None, ..] => Ok(None),
-        _ => visit_of(table, words).map(Some),
+        _ => request_of(table, words).map(Some),
     }
 }
 
@@ -129,13 +143,13 @@ fn is_remark(line: &str) -> bool
     line.starts_with('#')
 }
 
-// The visit that a line of a journal asks for; none where the line is passed over, as a remark or one with no words is.
+// What a line of a journal asks for; nothing where the line is passed over, as a remark or one with no words is.
 #[tactic(auto, using(crate::proofs::Cutting::four_tell))]
-pub fn read_visit(table: &Table, line: &str) -> Result<Option<Visit>, Mistake>
-    ensures { result ≡ visit_read (contents_of table.now).names line.now }
+pub fn read_request(table: &Table, line: &str) -> Result<Option<Request>, Mistake>
+    ensures { result ≡ request_read (contents_of table.now).names line.now }
 {
     if is_remark(line) {
         return Ok(None);
     }
-    visit_if_any(table, first_words(line))
+    request_if_any(table, first_words(line))
 }

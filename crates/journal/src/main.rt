@@ -14,13 +14,10 @@ use std::fs::File;
 use std::io::Read;
 use table::table::Table;
 
-// One byte more than the largest table has, so that nothing longer is accepted.
-const MOST: u64 = 49_693;
-
 const USE: &str = "journal TABLE < JOURNAL
 
 Makes the visits of a restorer's journal to a sheet that is begun on a table of rules, under the house family,
-and tells what came of each. A journal has one visit a line:
+and tells what came of each. A journal has one visit a line, or one question about the account that was found:
 
 enter NAME in    (or out)    a finding, behind those that stand
 withdraw                     the latest finding is taken off
@@ -28,6 +25,7 @@ draw                         what the findings force
 seek                         the earliest account that agrees with them
 weigh NAME                   whether it is in every account, in none, or in some only
 suppose NAME in  (or out)    seek with one finding more, which does not stay
+why NAME                     on which rule it stands in the account that was found last
 
 Blank lines and lines that begin with # are passed over.
 ";
@@ -40,11 +38,12 @@ fn keep<F: Family>(
     family: &F,
     journal: &str,
 ) -> Result<String, AllocError>
-    ensures { IfOk result (λ s. Kept (F.size family.now) (F.value family.now) table.now.bytes.now journal.now (string_bytes s)) }
+    ensures { IfOk result (λ s.
+        Kept (F.size family.now) (F.value family.now) table.now.bytes.now journal.now (string_bytes s)) }
 {
     let mut day = Day::read(heap, table, journal)?;
     let sheet = run(table, family, &mut day.entries);
-    let mut text = day.text(heap, table)?;
+    let mut text = day.text(heap, table, family, &sheet)?;
     let standing = standing_text(heap, table, sheet.findings())?;
     text.push_str(standing.as_str())?;
     Ok(text)
@@ -60,7 +59,7 @@ fn main(rt: HostRuntime) -> anyhow::Result<()> {
     };
     let mut bytes = Vec::new(heap);
     File::open(&rt, path.as_str())?
-        .take(MOST)
+        .take(Table::most_read())
         .read_to_end(&mut bytes)?;
     let table = Table::open(&bytes);
     if let Err(fault) = table.counts() {

@@ -1,5 +1,5 @@
 use Rattle.std.proofs.Common.{◌≡◌, true, false, [], bytes_eq, rules}
-use Rattle.daybook.proofs.Finding.{first_found}
+use Rattle.solver.proofs.First.{first_found}
 use Rattle.daybook.proofs.reading.find_statement.Goals as goal
 use Rattle.notation.specs.Text.{name_text}
 use Rattle.std.proofs.lemmas.Iterator.{first_from_Range}
