@@ -9,15 +9,17 @@ use presence::Presence;
 use refusal::Fault;
 use semantics::Finding;
 use sheet::{Answer, Drawing, Entry, Sheet, SignedSheet, Visit, run};
+use solver::Support;
 use std::alloc::Global;
 use table::table::Table;
 
 // Makes the calls of each case on a sheet. A case is a line: a name, the family, the bytes of a table in hexadecimal,
 // where `00ff*3` stands for `00ff` three times, and after ` : ` the calls: `+0` and `-0` enter statement 0 as present
-// and as absent, `withdraw`, `draw`, `seek`, `weigh:0`, `suppose+0`, `suppose-0`. After ` sign` come those on the
-// signed sheet, `report` among them. Where ` on ` parts the bytes in two, the sheet is begun on the second table. A
-// part has two bytes more than there are statements, or 4,622 for a report, unless the call says how many, as `draw/3`;
-// each is 7 before the call. What is printed of a call is its answer and, in brackets, the bytes of its part.
+// and as absent, `withdraw`, `draw`, `seek`, `weigh:0`, `suppose+0`, `suppose-0`, and `why:0=12` asks on what statement
+// 0 stands in the row of the bytes 1 and 2. After ` sign` come those on the signed sheet, `report` among them. Where
+// ` on ` parts the bytes in two, the sheet is begun on the second table. A part has two bytes more than there are
+// statements, or 4,622 for a report, unless the call says how many, as `draw/3`; each is 7 before the call. What is
+// printed of a call is its answer and, in brackets, the bytes of its part.
 
 // What a byte of a part is before a call.
 const BEFORE: u8 = 7;
@@ -71,6 +73,18 @@ fn read_entry(heap: Global, word: &str, statements: u16) -> anyhow::Result<Entry
         part: vec![in heap; BEFORE; length]?,
         answer: None,
     })
+}
+
+// A statement and the bytes of a row, a digit for each.
+fn read_question(heap: Global, word: &str) -> anyhow::Result<(u16, Vec<u8>)> {
+    let Some((number, digits)) = word.split_once('=') else {
+        return Err(anyhow!("{word} has no row"));
+    };
+    let mut row = Vec::new(heap);
+    for digit in digits.bytes() {
+        row.push(digit.wrapping_sub(b'0'))?;
+    }
+    Ok((number.parse::<u16>()?, row))
 }
 
 // Makes a visit by the call of its name.
@@ -153,6 +167,17 @@ fn push_made(
     Ok(())
 }
 
+// On what a statement of a row stands.
+fn push_support(text: &mut String, answer: Result<Support, Fault>) -> anyhow::Result<()> {
+    match answer {
+        Ok(Support::ByRule(i)) => write!(text, "by rule {i}; ")?,
+        Ok(Support::ByNone) => text.push_str("by no rule; ")?,
+        Ok(Support::NotIn) => text.push_str("not in; ")?,
+        Err(fault) => write!(text, "{fault}; ")?,
+    }
+    Ok(())
+}
+
 // The text of a report, with a stroke for the end of a line, and whether the bytes behind it are as they were.
 fn push_report(text: &mut String, answer: Result<usize, Fault>, part: &[u8]) -> anyhow::Result<()> {
     let length = match answer {
@@ -187,28 +212,37 @@ fn tell_open<F: Family>(
     let (table, begun) = tables;
     let mut sheet = Sheet::begin(begun);
     let mut entries = Vec::new(heap);
+    let mut made = String::new(heap);
     for word in calls.split_whitespace() {
+        if let Some(question) = word.strip_prefix("why:") {
+            let (statement, row) = read_question(heap, question)?;
+            push_support(text, sheet.why(table, family, statement, &row))?;
+            continue;
+        }
         let entry = read_entry(heap, word, table.statements())?;
         let mut part = vec![in heap; BEFORE; entry.part.len()]?;
         let answer = make(&mut sheet, table, family, entry.visit, &mut part);
         push_made(text, entry.visit, &answer, &part)?;
+        push_made(&mut made, entry.visit, &answer, &part)?;
         entries.push(entry)?;
     }
     if table.statements() == begun.statements() {
-        check_run(heap, text, table, family, &mut entries, &sheet)?;
+        let again = run_again(heap, table, family, &mut entries, &sheet)?;
+        if again != Some(made) {
+            text.push_str("BUT THE RUN DIFFERS; ")?;
+        }
     }
     Ok(sheet)
 }
 
-// Runs the visits again by one call, and says so if anything differs from what was printed before.
-fn check_run<F: Family>(
+// Runs the visits again by one call, and tells them; nothing, if the findings that stand then are others.
+fn run_again<F: Family>(
     heap: Global,
-    text: &mut String,
     table: &Table,
     family: &F,
     entries: &mut Vec<Entry>,
     sheet: &Sheet,
-) -> anyhow::Result<()> {
+) -> anyhow::Result<Option<String>> {
     let all = run(table, family, entries);
     let mut again = String::new(heap);
     for entry in &*entries {
@@ -216,10 +250,8 @@ fn check_run<F: Family>(
             push_made(&mut again, entry.visit, answer, &entry.part)?;
         }
     }
-    if again.as_str() != text.as_str() || all.findings() != sheet.findings() {
-        text.push_str("BUT THE RUN DIFFERS; ")?;
-    }
-    Ok(())
+    let same = all.findings() == sheet.findings();
+    Ok(same.then_some(again))
 }
 
 // The calls on the signed sheet.
@@ -237,6 +269,11 @@ fn tell_signed<F: Family>(
             let mut part = vec![in heap; BEFORE; length]?;
             let answer = sheet.report(table, family, &mut part);
             push_report(text, answer, &part)?;
+            continue;
+        }
+        if let Some(question) = word.strip_prefix("why:") {
+            let (statement, row) = read_question(heap, question)?;
+            push_support(text, sheet.why(table, family, statement, &row))?;
             continue;
         }
         let mut entry = read_entry(heap, word, table.statements())?;
