@@ -1,7 +1,10 @@
 ghost use Rattle.format.specs.Faults.{verdict};
-ghost use Rattle.sheet.specs.Outcomes.{DrawOutcome, SeekOutcome, WeighOutcome, part_faults, table_faults, weighing_faults, why_answer, why_faults, writing_faults};
+ghost use Rattle.sheet.specs.Outcomes.{DrawOutcome, FoundTo, SeekOutcome, WeighOutcome, WhyOutcome, part_faults, table_faults, weighing_faults, why_answer, why_faults, writing_faults};
 ghost use Rattle.sheet.specs.Sheets.{standing};
-ghost use Rattle.std.specs.Prelude.{◌≡◌};
+ghost use Rattle.semantics.specs.declared.Finding.{Finding};
+ghost use Rattle.solver.specs.declared.support.Support.TheVariants.{ByNone};
+ghost use Rattle.std.specs.Prelude.{◌≡◌, ◌≢◌, ℕ, List, Ok};
+ghost use Rattle.table.specs.Tables.{program_of};
 
 use super::sheet::Sheet;
 use super::visits::Drawing;
@@ -115,7 +118,8 @@ impl Sheet {
         Ok(weighing(table, family, self.findings(), statement))
     }
 
-    // Tells on what a statement of a row stands, unless it is refused.
+    // Tells on what a statement of a row stands, unless it is refused. Stays a function of its own: its proof is written out,
+    // so an edit of the caller's line breaks first at a promise, and not in a proof.
     pub(crate) fn explained<F: Family>(
         &self,
         table: &Table,
@@ -123,8 +127,13 @@ impl Sheet {
         statement: u16,
         row: &[u8],
     ) -> Result<Support, Fault>
-        ensures { result ≡ why_answer (F.size family.now) (F.value family.now) table.now.bytes.now
+        ensures value { result ≡ why_answer (F.size family.now) (F.value family.now) table.now.bytes.now
             self.now.statements statement row.now }
+        ensures outcome { WhyOutcome (F.size family.now) (F.value family.now) table.now.bytes.now
+            self.now.statements statement row.now result }
+        ensures account { (fs : List Finding) (part : List ℕ) (many : ℕ)
+            → FoundTo (F.value family.now) (program_of table.now) fs part row.now many
+            → result ≢ Ok ByNone }
     {
         self.check_why(table, family, statement, row)?;
         Ok(find_support(table, family, row, statement))

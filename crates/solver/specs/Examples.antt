@@ -1,5 +1,5 @@
 -- On which rules statements stand, in some rows of a small program.
-use Rattle.std.specs.Prelude.{◌≡◌, true, false, List, [], ◌∷◌, pos}
+use Rattle.std.specs.Prelude.{◌≡◌, true, false, [], ◌∷◌, pos}
 use Rattle.semantics.specs.Families.{house}
 use Rattle.semantics.specs.Programs.{Program}
 use Rattle.semantics.specs.declared.Relation.TheVariants.{Equal}
