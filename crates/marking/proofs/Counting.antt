@@ -1,4 +1,4 @@
--- The number of open statements, and of those that are in: counted from the last on, and never more under more marks.
+-- The number of statements that are in, counted from the last on, and of those that are open: never more under more marks.
 use Rattle.std.proofs.Common.{◌≡◌, zero, suc, ◌+◌, ◌≤◌, Bool, true, false, List, [], ◌∷◌, cond, count_by, length, refl, zero-add, ap, ◌∙◌, arith}
 use Rattle.marking.specs.Marks.{how_open, open_in}
 use Rattle.semantics.specs.FullMarkings.{is_in, row_of}
@@ -8,20 +8,7 @@ use Rattle.semantics.specs.declared.Mark.{Mark}
 use Rattle.semantics.specs.declared.Mark.TheVariants.{Open, In, Out}
 use Rattle.std.proofs.lemmas.List.Recursion.{is_count_by}
 
-abbrev pub is_open : Mark → Bool
-is_open Open = true
-is_open In = false
-is_open Out = false
-
-pub how_open_counts : (m : List Mark) → how_open m ≡ count_by is_open m
-how_open_counts = is_count_by how_open is_open refl one_more
-  where
-    one_more : (v : Mark) (m : List Mark) → how_open (v ∷ m) ≡ cond (is_open v) (1 + how_open m) (how_open m)
-    one_more Open m = refl
-    one_more In m = zero-add (how_open m)
-    one_more Out m = zero-add (how_open m)
-
--- and of those that are in
+-- those that are in
 pub in_counts : (m : List Mark) → how_many (row_of m) ≡ count_by is_in m
 in_counts = is_count_by (λ m. how_many (row_of m)) is_in refl one_more
   where

@@ -1,2 +1,4 @@
+pub mod Sets
+pub mod Digits
 pub mod Marks
 pub mod Fields
