@@ -7,7 +7,7 @@ use semantics::Mark;
 
 // Adds the weight of a member with this mark: as a sure one where it is in, as an open one where it is open, and not
 // at all where it is out.
-pub(crate) fn add_marked<F: Family>(family: &F, tally: &mut F::Tally, mark: Mark, weight: i32)
+pub fn add_marked<F: Family>(family: &F, tally: &mut F::Tally, mark: Mark, weight: i32)
     ensures { (k : ℕ) (s o : List ℤ)
         → F.tallies family.now tally.old k s o
         → Takes s o weight

@@ -1,0 +1,3 @@
+pub mod Rulesets
+pub mod Reading
+pub mod Judging
