@@ -101,11 +101,11 @@ fn account_text(heap: Global, table: &Table, account: Option<Account>) -> anyhow
 fn effort_text<F>(heap: Global, accounts: &Accounts<F>) -> anyhow::Result<String> {
     let (seeking, testing) = (&accounts.seeking, &accounts.testing);
     Ok(format!(in heap;
-        "{} nodes, {} taken back; tests {} nodes, {} taken back",
+        "{} nodes, {} conflicts; tests {} nodes, {} conflicts",
         seeking.nodes.get(),
-        seeking.taken_back.get(),
+        seeking.conflicts.get(),
         testing.nodes.get(),
-        testing.taken_back.get()
+        testing.conflicts.get()
     )?)
 }
 

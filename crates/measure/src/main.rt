@@ -17,14 +17,14 @@ fn seek(rt: &HostRuntime, table: &Table) -> anyhow::Result<()> {
     }
     let (seeking, testing) = (&accounts.seeking, &accounts.testing);
     println!(rt;
-        "search nodes {}, taken back {}",
+        "search nodes {}, conflicts {}",
         seeking.nodes.get(),
-        seeking.taken_back.get()
+        seeking.conflicts.get()
     )?;
     println!(rt;
-        "test nodes {}, taken back {}",
+        "test nodes {}, conflicts {}",
         testing.nodes.get(),
-        testing.taken_back.get()
+        testing.conflicts.get()
     )?;
     Ok(())
 }

@@ -1,11 +1,9 @@
 -- What a search finds: of the rows that fit and extend a marking, the earliest.
-use Rattle.std.specs.Prelude.{◌≡◌, ℕ, ◌<◌, Bool, ◌≢◌, List, length, Some, None, Option}
+use Rattle.std.specs.Prelude.{◌≡◌, ℕ, Bool, ◌≢◌, List, length, Some, None, Option}
 use Rattle.marking.specs.declared.marking.Marking.{Marking}
 use Rattle.semantics.specs.FullMarkings.{row_of, Full, Extends}
-use Rattle.semantics.specs.Markings.{at, Below}
 use Rattle.semantics.specs.Rows.{Precedes}
 use Rattle.semantics.specs.declared.Mark.{Mark}
-use Rattle.semantics.specs.declared.Mark.TheVariants.{Open}
 
 -- a row of so many statements that fits and extends the start
 pub record Solves (fits : List Bool → Type 0) (size : ℕ) (start : List Mark) (s : List Bool) : Type 0 where
@@ -23,24 +21,3 @@ pub record EarliestSolution (fits : List Bool → Type 0) (size : ℕ) (start m 
 abbrev pub Sought : (List Bool → Type 0) → ℕ → List Mark → Option Marking → Type 0
 Sought fits size start (Some m) = EarliestSolution fits size start m
 Sought fits size start None = (s : List Bool) → Solves fits size start s → ⊥
-
--- n has the marks of m and perhaps more, and no row that fits is lost
-pub record Narrows (fits : List Bool → Type 0) (m n : List Mark) : Type 0 where
-  pub long : length n ≡ length m
-  pub adds : Below m n
-  pub keeps : (s : List Bool) → fits s → Extends m s → Extends n s
-
--- a marking so narrowed, or that no row that fits extends m
-abbrev pub Narrowed : (List Bool → Type 0) → List Mark → Option Marking → Type 0
-Narrowed fits m (Some n) = Narrows fits m n
-Narrowed fits m None = (s : List Bool) → fits s → Extends m s → ⊥
-
--- the first open statement, or that none is open
-abbrev pub FirstOpen : List Mark → Option ℕ → Type 0
-FirstOpen m (Some q) = (q < length m) × (at m q ≡ Open) × ((k : ℕ) → k < q → at m k ≢ Open)
-FirstOpen m None = Full m
-
--- the marking itself where its row fits, or that its row does not
-abbrev pub Accepted : (List Bool → Type 0) → List Mark → Option Marking → Type 0
-Accepted fits m (Some n) = (n ≡ m) × fits (row_of m)
-Accepted fits m None = fits (row_of m) → ⊥

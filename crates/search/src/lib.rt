@@ -1,9 +1,17 @@
 #![tactic(auto)]
 
-mod counted;
 mod effort;
+mod level;
+mod memory;
+mod nogoods;
+mod outcome;
+mod problem;
 mod search;
+mod standing;
+mod store;
+mod trail;
+mod watches;
 
-pub use counted::Counted;
 pub use effort::Effort;
-pub use search::{Problem, earliest};
+pub use problem::{Judgement, Problem};
+pub use search::earliest;

@@ -5,7 +5,7 @@ use Rattle.semantics.specs.Markings.{noted}
 use Rattle.semantics.specs.Programs.{Program}
 use Rattle.semantics.specs.Theorems.{Noted}
 use Rattle.semantics.specs.declared.Finding.{Finding}
-use Rattle.solver.proofs.Seeking.{sought_for, weighed_for}
+use Rattle.solver.proofs.Finding.{sought_for, weighed_for}
 use Rattle.solver.specs.Accounts.{Seeks, SeeksFor, Weighs, WeighsFor}
 use Rattle.solver.specs.declared.account.Account.{Account}
 use Rattle.solver.specs.declared.weighing.Weighing.{Weighing}

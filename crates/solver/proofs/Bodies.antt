@@ -1,33 +1,23 @@
 -- Under a full marking, what is said of a rule is what its row makes of it.
-use Rattle.std.proofs.Common.{◌≡◌, ◌≢◌, ◌↔◌, IsTrue, ℕ, ◌<◌, Bool, true, false, not, ◌⊎◌, List, [], ◌∷◌, length, get_or, ℤ, ◌≤ℤ◌, Some, None, Option, sym, refl, ap, ◌∙◌, subst, inl, inr, ⊎_elim, arith, cond}
+use Rattle.std.proofs.Common.{◌≡◌, ℕ, ◌<◌, Bool, true, false, not, List, [], ◌∷◌, length, get_or, ℤ, ◌≤ℤ◌, Some, None, Option, sym, refl, ap, ◌∙◌, subst, inl, inr, ⊎_elim, arith, cond}
 use Rattle.std.proofs.lemmas.List.{get_or_past}
-use Rattle.std.proofs.lemmas.Bool.{and_parts, and_from, both_ways, cases_Bool, cases_lt, not-true, not_from_false, false≢true}
+use Rattle.std.proofs.lemmas.Bool.{and_parts, and_from, cases_lt, not-true, not_from_false, false≢true}
 use Rattle.std.proofs.lemmas.Int.{ints}
-use Rattle.judging.proofs.BodyVerdicts.{as_literal, of_literal}
-use Rattle.judging.specs.Bodies.{BodyIs}
-use Rattle.judging.specs.Literals.{LiteralsAre, as_literals}
-use Rattle.judging.specs.declared.bodies.Body.{Body}
-use Rattle.judging.specs.declared.bodies.Body.TheVariants.{Certain as IsCertain, ButFor, Refuted as IsRefuted, Neither}
-use Rattle.judging.specs.declared.literals.Literal.{Literal}
-use Rattle.judging.specs.declared.literals.Literals.{Literals}
-use Rattle.judging.specs.declared.literals.Literals.TheVariants.{Met, OneOpen, SeveralOpen, Against}
 use Rattle.semantics.proofs.FullMarkings.{allowed_once, row_extends, row_has}
-use Rattle.semantics.proofs.Lists.{all_at, all_from, among_at, any_from, none_from}
-use Rattle.semantics.proofs.Marks.{not_itself}
+use Rattle.semantics.proofs.Lists.{all_at, all_from, among_at}
 use Rattle.semantics.proofs.Monotone.{bag_of_row}
-use Rattle.semantics.proofs.Sound.{certain_true, impossible_false}
+use Rattle.semantics.proofs.Sound.{certain_true}
 use Rattle.semantics.specs.AnswerSets.{BodyTrue, passes, true_in, weights}
 use Rattle.semantics.specs.Families.{Values}
 use Rattle.semantics.specs.FullMarkings.{is_in, row_of}
 use Rattle.semantics.specs.Lists.{Among}
-use Rattle.semantics.specs.Markings.{Agrees, Attained, Bag, Between, BodyCertain, Certain, Refuted, at, literals, marked}
+use Rattle.semantics.specs.Markings.{Agrees, Attained, Bag, Between, BodyCertain, Certain, at, literals, marked}
 use Rattle.semantics.specs.Programs.{Aggregate, Rule, stands}
 use Rattle.semantics.specs.Rows.{has}
 use Rattle.semantics.specs.declared.Mark.{Mark}
 use Rattle.semantics.specs.declared.Mark.TheVariants.{Open, In, Out}
 use Rattle.semantics.specs.declared.Member.{Member}
 use Rattle.solver.specs.Reducts.{Whole}
-use Rattle.std.specs.List.{list_any}
 use Rattle.table.proofs.Limits.{Known, rules_known}
 use Rattle.table.specs.Contents.{contents}
 use Rattle.table.specs.View.{no_rule}
@@ -42,13 +32,6 @@ nth_known b i =
   where
     none : Known (length (contents b).names) no_rule
     none = record { head = λ q a. absurd a; positive = λ q a. absurd a; negative = λ q a. absurd a; members = λ g m a e. absurd a }
-
--- whether literals are all met
-pub met_or_not : (s : Literals) → (s ≡ Met) ⊎ (s ≡ Met → ⊥)
-met_or_not Met = inl refl
-met_or_not (OneOpen l) = inr (λ e. let w : ◌≡◌ {A = ℕ} 0 1 = cc in omega arith)
-met_or_not SeveralOpen = inr (λ e. let w : ◌≡◌ {A = ℕ} 0 1 = cc in omega arith)
-met_or_not Against = inr (λ e. let w : ◌≡◌ {A = ℕ} 0 1 = cc in omega arith)
 
 -- two numbers that are each at most the other
 le_both : (a b : ℤ) → a ≤ℤ b → b ≤ℤ a → a ≡ b
@@ -135,45 +118,10 @@ module _ (m : List Mark) (n : ℕ) (whole : Whole n m) where
       positives = all_from _ r.positive (λ q i. agrees q true (c.literal q true i));
     }
 
-    -- a refuted body is not true
-    refuted_false : Refuted value m r → BodyTrue value (row_of m) r → ⊥
-    refuted_false (inl (q, x, i, e)) t = not_itself x (sym (true_literal t q x i) ∙ agrees q (not x) e)
-    refuted_false (inr (g, i, e)) t = both_ways (true_in value (row_of m) g) (impossible_false value m (row_of m) agrees g e) (true_aggregate t g i)
+-- and so for each rule of a table
+module _ (b : List ℕ) (i : ℕ) (value : Values) (m : List Mark) (whole : Whole (length (contents b).names) m) where
+  pub certain_is_true : BodyCertain value m (get_or (contents b).rules i no_rule) → BodyTrue value (row_of m) (get_or (contents b).rules i no_rule)
+  certain_is_true = certain_body m _ whole value _ (nth_known b i)
 
-    -- so of a true body nothing is said but that it is certain
-    said_certain : (b : Body) → BodyIs value m r b → BodyTrue value (row_of m) r → b ≡ IsCertain
-    said_certain IsCertain h t = refl
-    said_certain (ButFor l) h t = absurd (not_open l.statement (literal_known l.statement l.present h.0.one) h.1)
-    said_certain IsRefuted h t = absurd (refuted_false h t)
-    said_certain Neither h t = absurd (h.uncertain (body_certain t))
-
-    pub body_decided : (b : Body) (found : Bool) → (IsTrue found ↔ (b ≡ IsCertain)) → BodyIs value m r b → (IsTrue found ↔ BodyTrue value (row_of m) r)
-    body_decided b found test h = ((λ y. certain_body (subst (BodyIs value m r) (test.0 y) h).0), λ t. test.1 (said_certain b h t))
-
-  -- of known statements none is open: all literals are met, or one is against its mark
-  pub one_against : (ls : List Literal) → ((l : Literal) → Among l ls → l.statement < n) → (s : Literals) → (s ≡ Met → ⊥) → LiteralsAre m ls s → (l : Literal) × Among l ls × (at m l.statement ≡ marked (not l.present))
-  one_against ls k Met h a = absurd (h refl)
-  one_against ls k (OneOpen l) h a = absurd (not_open l.statement (k l a.0) a.1)
-  one_against ls k SeveralOpen h a = absurd (not_open a.one.statement (k a.one a.one_among) a.one_open)
-  one_against ls k Against h a = a
-
-  module _ (r : Rule) (known : Known n r) where
-    head_known : (l : Literal) → Among l (as_literals false r.head) → l.statement < n
-    head_known l i = known.head l.statement (of_literal false l r.head i).1
-
-    pub head_missing : LiteralsAre m (as_literals false r.head) Met → list_any (has (row_of m)) r.head ≡ false
-    head_missing h = none_from (has (row_of m)) r.head (λ q i. agrees q false (h (record { statement = q; present = false }) (as_literal false q r.head i)))
-
-    pub head_present : (s : Literals) → (s ≡ Met → ⊥) → LiteralsAre m (as_literals false r.head) s → list_any (has (row_of m)) r.head ≡ true
-    head_present s d h =
-        let a = one_against (as_literals false r.head) head_known s d h in
-        let e = of_literal false a.0 r.head a.1 in
-        any_from (has (row_of m)) r.head a.0.statement e.1 (agrees a.0.statement true (rw e.0 at a.2))
-
-    -- so a test for all being out tells whether the row has one
-    pub head_decided : (s : Literals) (some : Bool) → (IsTrue some ↔ (s ≢ Met)) → LiteralsAre m (as_literals false r.head) s → some ≡ list_any (has (row_of m)) r.head
-    head_decided s some test h =
-        ⊎_elim
-        (λ e. ⊎_elim (λ y. absurd (test.0 y e)) (λ f. f ∙ sym (head_missing (subst (LiteralsAre m (as_literals false r.head)) e h))) (cases_Bool some))
-        (λ d. test.1 d ∙ sym (head_present s d h))
-        (met_or_not s)
+  pub true_is_certain : BodyTrue value (row_of m) (get_or (contents b).rules i no_rule) → BodyCertain value m (get_or (contents b).rules i no_rule)
+  true_is_certain = body_certain m _ whole value _ (nth_known b i)

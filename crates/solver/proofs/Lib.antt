@@ -1,12 +1,14 @@
 pub mod Bodies
 pub mod Obeying
 pub mod Keeping
-pub mod Failing
+pub mod Sets
 pub mod Removing
+pub mod Heads
 pub mod Comparing
 pub mod Pruning
+pub mod Judgements
 pub mod Minimal
-pub mod Seeking
+pub mod Finding
 pub mod Starting
 pub mod First
 pub mod Supporting

@@ -1,5 +1,5 @@
 -- An answer set is a row that obeys itself and of which no smaller part is found by what is removed.
-use Rattle.std.proofs.Common.{◌≡◌, ℕ, ◌<◌, ◌≤◌, Bool, true, false, not, List, length, map, get_or, Some, None, Option, is_some, sym, refl, ap, ◌∙◌, subst, ⊎_elim, arith}
+use Rattle.std.proofs.Common.{◌≡◌, ◌↔◌, ℕ, ◌<◌, Bool, true, false, not, List, length, map, get_or, Some, None, Option, is_some, sym, refl, ap, ◌∙◌, subst, ⊎_elim, arith}
 use Rattle.std.proofs.Math.Bool.{not-not}
 use Rattle.std.proofs.lemmas.Bool.{cases_Bool, cases_lt, false≢true}
 use Rattle.std.proofs.lemmas.List.{ext_get_or, get_or-map, get_or_past, length-map}
@@ -18,6 +18,9 @@ use Rattle.semantics.specs.Rows.{Part, ProperPart, has}
 use Rattle.semantics.specs.declared.Mark.{Mark}
 use Rattle.semantics.specs.declared.Mark.TheVariants.{Open, In, Out}
 use Rattle.solver.proofs.Removing.{rest_has}
+use Rattle.solver.specs.Parts.{SmallerBy}
+use Rattle.solver.specs.declared.parts.Parts.{Parts}
+use Rattle.table.specs.Tables.{program_of, rules_of}
 use Rattle.solver.specs.Reducts.{Reduces, keeps}
 use Rattle.solver.proofs.Obeying.{meets_obeyed, obeyed_meets}
 use Rattle.solver.specs.Smaller.{Meets, MeetsAll, Smaller, SomeSmaller, removable, rest}
@@ -91,20 +94,13 @@ smaller_extends rules kept row removed h = record { long = long ∙ sym (length-
         (λ l. absurd (open_unmarked x (sym (get_or_past (map removable row) q Open (omega (arith, l, length-map row removable))) ∙ e)))
         (cases_lt q (length row))
 
--- the start, statement by statement
-pub start_filled : (row start : List Mark) (end : ℕ) → length start ≡ length row → length row ≤ end → ((k : ℕ) → k < end → at start k ≡ removable (at row k)) → start ≡ map removable row
-start_filled row start end l e h =
-    ext_get_or Open start (map removable row) (l ∙ sym (length-map row removable)) (λ k i.
-    h k (omega (arith, i, l, e)) ∙ sym (start_at row k (omega (arith, i, l))))
-
 -- a search for a smaller part finds one, or there is none
-pub smaller_sought : (rules : List Rule) (kept : List Bool) (n : ℕ) (row : List Mark) → length row ≡ n → (r : Option Marking) → Sought (Smaller rules kept (row_of row)) n (map removable row) r → (is_some r ≡ true → SomeSmaller rules kept (row_of row)) × (SomeSmaller rules kept (row_of row) → is_some r ≡ true)
-smaller_sought rules kept n row l (Some m) h = ((λ e. (row_of m, h.solution.fitting)), λ s. refl)
-smaller_sought rules kept n row l None h = (
+pub smaller_sought : (p : Parts) (n : ℕ) → n ≡ (program_of p.rules.now.table.now).statements → length p.row.now ≡ n → (r : Option Marking) → Sought (SmallerBy p) n (map removable p.row.now) r → (is_some r ≡ true ↔ SomeSmaller (rules_of p.rules.now.table.now) p.reduct.now.kept (row_of p.row.now))
+smaller_sought p n e l (Some m) h = ((λ e. (row_of m, h.solution.fitting.smaller)), λ s. refl)
+smaller_sought p n e l None h = (
   (λ e. absurd (false≢true e)),
-  λ s. absurd (h s.0 record {
-    long = (smaller_extends rules kept row s.0 s.1).long ∙ length-map row removable ∙ l;
-    fitting = s.1;
-    extends = smaller_extends rules kept row s.0 s.1;
-  }),
+  λ (removed, s).
+      let x = smaller_extends (rules_of p.rules.now.table.now) p.reduct.now.kept p.row.now removed s in
+      let long : length removed ≡ n = x.long ∙ length-map p.row.now removable ∙ l in
+      absurd (h removed record { long = long; fitting = record { long = long ∙ e; smaller = s }; extends = x }),
 )

@@ -1,12 +1,12 @@
 -- On which rule a statement of a row stands: what tells that a rule supports it, and which is the first to.
 use Rattle.std.proofs.Common.{◌≡◌, ◌≢◌, ◌↔◌, IsTrue, ℕ, ◌+◌, ◌<◌, ◌==◌, Bool, true, false, not, ◌&&◌, ◌||◌, List, [], ◌∷◌, length, get_or, map, set, cond, Decides, position, slice_index, Some, None, Option, sym, refl, ap, ◌∙◌, subst, ⊎_elim, arith}
-use Rattle.std.proofs.lemmas.Bool.{and_parts, and_from, both_ways, cases_Bool, cases_eq, eq-eqb, eqb-true, ne_eqb, not-true, not_from_false, or_left, or_right}
-use Rattle.std.proofs.lemmas.List.{ext_get_or, get_or-map, get_or-set_other, get_or-set_same, length-map, length-set}
+use Rattle.std.proofs.lemmas.Bool.{and_parts, and_from, both_ways, cases_Bool, cases_eq, eq-eqb, eqb-true, ne_eqb, or_left, or_right}
+use Rattle.std.proofs.lemmas.List.{ext_get_or, get_or-map, get_or-set_other, get_or-set_same, length-map}
 use Rattle.std.proofs.lemmas.List.FromFn.{get_or-map-range_with_len, length-map-range_with_len}
 use Rattle.std.specs.List.{list_all, list_any}
 use Rattle.semantics.proofs.AnswerSets.{supported}
-use Rattle.semantics.proofs.FullMarkings.{has_inside, in_row, row_has}
-use Rattle.semantics.proofs.Lists.{all_at, all_from, any_from, any_none, any_one, none_from}
+use Rattle.semantics.proofs.FullMarkings.{in_row}
+use Rattle.semantics.proofs.Lists.{all_at, all_from, any_from, any_one}
 use Rattle.semantics.proofs.Marks.{open_unmarked}
 use Rattle.semantics.specs.AnswerSets.{AnswerSet, BodyTrue, Supports, counts}
 use Rattle.semantics.specs.Families.{Values}
@@ -16,70 +16,12 @@ use Rattle.semantics.specs.Markings.{at, marked}
 use Rattle.semantics.specs.Programs.{Program, Rule}
 use Rattle.semantics.specs.Rows.{has}
 use Rattle.semantics.specs.declared.Mark.{Mark}
-use Rattle.semantics.specs.declared.Mark.TheVariants.{Open, In, Out}
+use Rattle.semantics.specs.declared.Mark.TheVariants.{Open, In}
 use Rattle.solver.proofs.First.{FirstOrNone, first_or_none}
 use Rattle.solver.specs.Reducts.{Whole}
 use Rattle.solver.specs.Support.{OnlyHead, StandsOn, by_first, row_read, support_of, supports}
 use Rattle.solver.specs.declared.support.Support.TheVariants.{ByNone, NotIn}
 use Rattle.table.specs.View.{no_rule}
-
-module _ (m : List Mark) (q : ℕ) (present : at m q ≡ In) where
-  inside : q < length m
-  inside = omega (arith, has_inside (row_of m) q (in_row m q present), length-map m is_in)
-
-  -- without q, the row has all others as before
-  others_same : (o : ℕ) → (o ≡ q → ⊥) → has (row_of (set m q Out)) o ≡ has (row_of m) o
-  others_same o d = row_has (set m q Out) o ∙ ap is_in (get_or-set_other m q o Out Open d) ∙ sym (row_has m o)
-
-  others_lack : has (row_of (set m q Out)) q ≡ false
-  others_lack = row_has (set m q Out) q ∙ ap is_in (get_or-set_same m q Out Open inside)
-
-  others_whole : (n : ℕ) → Whole n m → Whole n (set m q Out)
-  others_whole n whole = record {
-    full = λ o l e. ⊎_elim
-        (λ (same : o ≡ q). open_unmarked false (sym e ∙ rw same (get_or-set_same m q Out Open inside)))
-        (λ d. whole.full o (omega (arith, l, length-set m q Out)) (sym (get_or-set_other m q o Out Open d) ∙ e))
-        (cases_eq o q);
-    long = length-set m q Out ∙ whole.long;
-  }
-
-  module _ (r : Rule) where
-    abbrev some_head : Bool
-    some_head = list_any (has (row_of m)) r.head
-
-    abbrev other_head : Bool
-    other_head = list_any (has (row_of (set m q Out))) r.head
-
-    -- where there is a head statement in the row, and without q none, q is the only one
-    only_other : other_head ≡ false → (o : ℕ) → Among o r.head → has (row_of m) o ≡ true → o ≡ q
-    only_other none o i h = ⊎_elim (λ e. e) (λ d. absurd (both_ways (has (row_of (set m q Out)) o) (any_none (has (row_of (set m q Out))) r.head o none i) (others_same o d ∙ h))) (cases_eq o q)
-
-    is_only : some_head ≡ true → other_head ≡ false → OnlyHead (row_of m) q r
-    is_only some none =
-        let (o, i, h) = any_one (has (row_of m)) r.head some in
-        record { heads = subst (λ x. Among x r.head) (only_other none o i h) i; alone = only_other none }
-
-    -- and the other way round
-    one_there : OnlyHead (row_of m) q r → some_head ≡ true
-    one_there only = any_from (has (row_of m)) r.head q only.heads (in_row m q present)
-
-    none_there : OnlyHead (row_of m) q r → other_head ≡ false
-    none_there only = none_from (has (row_of (set m q Out))) r.head (λ o i. ⊎_elim
-        (λ e. subst (λ x. has (row_of (set m q Out)) x ≡ false) (sym e) others_lack)
-        (λ d. others_same o d ∙ ⊎_elim (λ t. absurd (d (only.alone o i t))) (λ f. f) (cases_Bool (has (row_of m) o)))
-        (cases_eq o q))
-
-    only_head_told : (one more : Bool) → one ≡ some_head → more ≡ other_head → (IsTrue (one && not more) ↔ OnlyHead (row_of m) q r)
-    only_head_told one more e f = (
-      (λ t. let both = and_parts one (not more) t in is_only (sym e ∙ both.0) (sym f ∙ not-true more both.1)),
-      λ only. and_from one (not more) (e ∙ one_there only) (not_from_false more (f ∙ none_there only)),
-    )
-
--- the two tests of a head, in the row and in the row without q
-pub only_head_by : (n : ℕ) (m others : List Mark) (q : ℕ) (r : Rule) (one more : Bool) → others ≡ set m q Out → (Whole n m → one ≡ list_any (has (row_of m)) r.head) → (Whole n others → more ≡ list_any (has (row_of others)) r.head) → Whole n m → at m q ≡ In → (IsTrue (one && not more) ↔ OnlyHead (row_of m) q r)
-only_head_by n m others q r one more e f g whole present =
-    only_head_told m q present r one more (f whole)
-    (g (subst (Whole n) (sym e) (others_whole m q present n whole)) ∙ ap (λ o. list_any (has (row_of o)) r.head) e)
 
 -- a rule supports q where its body is true, and of its head q only is in s
 pub supports_told : (value : Values) (s : List Bool) (q : ℕ) (r : Rule) → OnlyHead s q r → BodyTrue value s r → Supports value s q r

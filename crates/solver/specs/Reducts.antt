@@ -1,11 +1,12 @@
 -- Which rules bind the parts of a row.
-use Rattle.std.specs.Prelude.{◌≡◌, ◌↔◌, ℕ, ◌<◌, ◌≤◌, Bool, true, false, IsTrue, List, length, Some, None, Option, slice_index_or}
+use Rattle.std.specs.Prelude.{◌≡◌, ◌↔◌, ℕ, ◌<◌, ◌≤◌, Bool, true, false, IsTrue, List, length, slice_index_or}
 use Rattle.semantics.specs.AnswerSets.{BodyTrue, obeys}
 use Rattle.semantics.specs.Families.{Values}
 use Rattle.semantics.specs.FullMarkings.{Full}
 use Rattle.semantics.specs.Programs.{Rule}
 use Rattle.semantics.specs.declared.Mark.{Mark}
-use Rattle.solver.specs.declared.reduct.Reduct.{Reduct}
+use Rattle.solver.specs.declared.reducing.Reduced.{Reduced}
+use Rattle.solver.specs.declared.reducing.Reduced.TheVariants.{To, Broken}
 use Rattle.table.specs.View.{no_rule}
 
 -- a full marking of so many statements
@@ -23,6 +24,6 @@ pub record Reduces (value : Values) (rules : List Rule) (s : List Bool) (n : ℕ
   pub others : (i : ℕ) → n ≤ i → keeps kept i ≡ false
 
 -- the reduct of a row that obeys itself, or that it does not
-abbrev pub ReductOf : Values → List Rule → List Bool → Option Reduct → Type 0
-ReductOf value rules s (Some r) = Reduces value rules s (length rules) r.kept × (obeys value s s rules ≡ true)
-ReductOf value rules s None = obeys value s s rules ≡ false
+abbrev pub ReductOf : Values → List Rule → List Bool → Reduced → Type 0
+ReductOf value rules s (To r) = Reduces value rules s (length rules) r.kept × (obeys value s s rules ≡ true)
+ReductOf value rules s (Broken i) = obeys value s s rules ≡ false

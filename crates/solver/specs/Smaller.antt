@@ -1,13 +1,15 @@
 -- A proper part of a row that obeys against it, by what is removed from the row.
-use Rattle.std.specs.Prelude.{◌≡◌, ℕ, ◌<◌, Bool, true, false, if◌then◌else◌, not, List, [], ◌∷◌, ◌++◌, map, length, slice_index_or}
-use Rattle.judging.specs.Literals.{as_literals}
-use Rattle.judging.specs.declared.literals.Literal.{Literal}
+use Rattle.std.specs.Prelude.{◌≡◌, ◌==◌, ◌&&◌, ◌||◌, ℕ, ◌<◌, Bool, true, not, List, map, length, slice_index_or, Some, None, Option}
+use Rattle.marking.specs.Marks.{is_out}
+use Rattle.marking.specs.declared.marking.Marking.{Marking}
+use Rattle.rulesets.specs.Rulesets.{has_member}
 use Rattle.semantics.specs.AnswerSets.{needs_met}
-use Rattle.semantics.specs.Programs.{Aggregate, Rule}
+use Rattle.semantics.specs.FullMarkings.{is_in}
+use Rattle.semantics.specs.Markings.{at}
+use Rattle.semantics.specs.Programs.{Rule}
 use Rattle.semantics.specs.Rows.{has, ProperPart}
 use Rattle.semantics.specs.declared.Mark.{Mark}
 use Rattle.semantics.specs.declared.Mark.TheVariants.{Open, In, Out}
-use Rattle.semantics.specs.declared.Member.{Member}
 use Rattle.solver.specs.Reducts.{keeps}
 use Rattle.std.specs.List.{list_any}
 use Rattle.table.specs.View.{no_rule}
@@ -37,23 +39,24 @@ pub record Smaller (rules : List Rule) (kept s removed : List Bool) : Type 0 whe
 abbrev pub SomeSmaller : List Rule → List Bool → List Bool → Type 0
 SomeSmaller rules kept s = (removed : List Bool) × Smaller rules kept s removed
 
--- that a statement be left
-abbrev pub left : ℕ → Literal
-left q = record { statement = q; present = false }
+-- whether it is a head statement of the rule
+abbrev pub heads : Rule → ℕ → Bool
+heads r q = list_any (λ p. p == q) r.head
 
--- the members that are in s, none to be removed
-abbrev pub member_literals : List Bool → List Member → List Literal
-member_literals s [] = []
-member_literals s (m ∷ ms) = if has s m.statement then left m.statement ∷ member_literals s ms else member_literals s ms
+-- whether the rule needs it: a positive statement, or that of a member, if it is in s
+abbrev pub needs : List Bool → Rule → ℕ → Bool
+needs s r q = list_any (λ p. p == q) r.positive || (list_any (λ g. has_member q g.members) r.aggregates && has s q)
 
--- and of several sets
-abbrev pub set_literals : List Bool → List Aggregate → List Literal
-set_literals s [] = []
-set_literals s (g ∷ gs) = member_literals s g.members ++ set_literals s gs
+-- these marks remove the head statements of the rule, leave what it needs, and say no more
+pub record FailingMarks (s : List Bool) (r : Rule) (n : List Mark) : Type 0 where
+  pub long : length n ≡ length s
+  pub removed : (q : ℕ) → q < length s → is_in (at n q) ≡ heads r q
+  pub left : (q : ℕ) → q < length s → is_out (at n q) ≡ needs s r q
 
--- the head statements removed, and nothing removed of what the rule needs: where all of this is so, what is left fails the rule
-abbrev pub failing_literals : List Bool → Rule → List Literal
-failing_literals s r = as_literals true r.head ++ (as_literals false r.positive ++ set_literals s r.aggregates)
+-- the marks under which what is left of s fails the rule; or there are none, since the rule needs one of its head statements
+abbrev pub FailsUnder : List Bool → Rule → Option Marking → Type 0
+FailsUnder s r (Some n) = FailingMarks s r n
+FailsUnder s r None = (q : ℕ) × (heads r q ≡ true) × (needs s r q ≡ true)
 
 -- some statement of s is removed
 abbrev pub RemovesSome : List Bool → List Bool → Type 0

@@ -1,18 +1,16 @@
-ghost use Rattle.semantics.specs.AnswerSets.{AnswerSet};
-ghost use Rattle.semantics.specs.Markings.{marked};
 ghost use Rattle.solver.specs.Accounts.{Excluded, Seeks, SomeAccount, Weighs, some_has, some_lacks};
-ghost use Rattle.std.specs.Prelude.{◌≡◌, ◌↔◌, Bool, IsTrue, List, slice_set};
+ghost use Rattle.std.specs.Prelude.{◌≡◌, ◌↔◌, IsTrue};
 ghost use Rattle.table.specs.Tables.{program_of};
 
 use super::account::Account;
-use super::minimality::has_smaller;
-use super::reducing::reduce;
+use super::seeking::Seeker;
 use super::weighing::Weighing;
 use drawing::draw_from;
 use family::Family;
-use judging::Rulebook;
 use marking::Marking;
-use search::{Counted, Effort, Problem};
+use narrowing::Mentions;
+use rulesets::Rulesets;
+use search::Effort;
 use semantics::Mark;
 use table::table::Table;
 
@@ -24,34 +22,6 @@ pub struct Accounts<'a, F> {
     family: &'a F,
     pub seeking: Effort,
     pub testing: Effort,
-}
-
-impl<F: Family> Problem for Accounts<'_, F> {
-    ghost size = { λ a. (program_of a.table.now).statements };
-
-    ghost fits = { λ a s. AnswerSet (F.value a.family.now) (program_of a.table.now) s };
-
-    fn statements(&self) -> u16 {
-        self.table.statements()
-    }
-
-    // By drawing.
-    #[tactic(auto, using(crate::proofs::Seeking::drawn_narrows))]
-    fn narrow(&self, marking: Marking, _latest: Option<u16>) -> Option<Marking> {
-        draw_from(self.table, self.family, marking)
-    }
-
-    // Whether it obeys itself, and no proper part of it obeys against it.
-    fn accepts(&self, row: &Marking) -> bool {
-        let book = Rulebook {
-            table: self.table,
-            family: self.family,
-        };
-        let Some(reduct) = reduce(&book, row) else {
-            return false;
-        };
-        !has_smaller(self.table, row, &reduct, &self.testing)
-    }
 }
 
 // Whether no row that extends a marking has a statement (true), or lacks it (false), by its mark; past the last statement
@@ -96,11 +66,10 @@ impl<'a, F: Family> Accounts<'a, F> {
     pub fn earliest(&self, start: Marking) -> Option<Account>
         ensures { Seeks (F.value self.now.family.now) (program_of self.now.table.now) start result }
     {
-        let counted = Counted {
-            problem: self,
-            effort: &self.seeking,
-        };
-        let marks = search::earliest(&counted, start)?;
+        let rules = Rulesets::new(self.table);
+        let mentions = Mentions::new(&rules);
+        let seeker = Seeker::new(&rules, &mentions, self.family, &self.testing);
+        let marks = search::earliest(&seeker, start, &self.seeking)?;
         Some(Account::from(marks))
     }
 

@@ -6,6 +6,7 @@ mod minimality;
 mod parts;
 mod reducing;
 mod reduct;
+mod seeking;
 mod support;
 mod theorems;
 mod weighing;

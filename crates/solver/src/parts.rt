@@ -1,157 +1,100 @@
-ghost use Rattle.judging.specs.Literals.{LiteralsAre};
-ghost use Rattle.judging.specs.declared.literals.Literal.{Literal};
-ghost use Rattle.search.specs.Search.{Narrowed};
+ghost use Rattle.marking.specs.Marks.{Divides};
+ghost use Rattle.marking.specs.Sets.{Meets, contains};
+ghost use Rattle.rulesets.specs.Rulesets.{SetsOf};
+ghost use Rattle.search.specs.Nogoods.{Nogood};
 ghost use Rattle.semantics.specs.FullMarkings.{Full, row_of};
-ghost use Rattle.semantics.specs.Markings.{at};
-ghost use Rattle.semantics.specs.Programs.{Aggregate};
+ghost use Rattle.semantics.specs.Programs.{Rule};
 ghost use Rattle.semantics.specs.Rows.{Part, ProperPart};
-ghost use Rattle.semantics.specs.declared.Mark.TheVariants.{In, Out};
-ghost use Rattle.semantics.specs.declared.Member.{Member};
-ghost use Rattle.solver.specs.Reducts.{Whole, keeps};
-ghost use Rattle.solver.specs.Smaller.{RemovesSome, failing_literals, left, member_literals, rest, set_literals};
-ghost use Rattle.std.specs.Prelude.{◌≡◌, ◌≢◌, ◌<◌, ◌↔◌, ◌++◌, IsTrue, List, length, true};
-ghost use Rattle.table.specs.Tables.{contents_of, nth_rule, program_of, rules_of};
-ghost use Rattle.table.specs.View.{Covers};
+ghost use Rattle.solver.specs.Reducts.{Whole};
+ghost use Rattle.solver.specs.Smaller.{FailsUnder, needs, RemovesSome, rest};
+ghost use Rattle.std.specs.Prelude.{◌≡◌, ◌↔◌, IfNone, IfSome, IsTrue, length, ℕ};
+ghost use Rattle.table.specs.Tables.{contents_of, nth_rule, program_of};
 
 use super::reduct::Reduct;
-use judging::{Literal, Literals, judge_literals};
-use marking::Marking;
-use search::Problem;
-use semantics::{Mark, Member};
-use table::table::{Run, Table};
+use marking::{Marking, Set};
+use narrowing::{Mentions, Work};
+use rulesets::{Ruleset, Rulesets};
+use search::{Judgement, Problem};
+use semantics::Mark;
+
+// The most that is looked at before more is marked: more than there can be.
+const MOST_LOOKS: usize = 200_000;
 
 // The proper parts of a row that obey against it, by what is removed: a statement of the row that is marked in is taken
 // out of it, one that is marked out is left.
 #[derive(Clone, Copy)]
 pub(crate) struct Parts<'a> {
-    pub table: &'a Table<'a>,
+    pub rules: &'a Rulesets<'a>,
+    pub mentions: &'a Mentions,
     pub row: &'a Marking,
     pub reduct: &'a Reduct,
 }
 
-// That a statement be left.
-fn left(statement: u16) -> Literal
-    ensures { result ≡ left statement }
-{
-    Literal {
-        statement,
-        present: false,
-    }
+// Whether a nogood is met, or all of it but one open statement. A hint.
+fn is_near(removed: &Marking, nogood: &Marking) -> bool {
+    let unmet = nogood.unmet(removed);
+    unmet.is_empty()
+        || unmet
+            .only()
+            .is_some_and(|statement| removed.mark(statement) == Mark::Open)
 }
 
 impl Parts<'_> {
     ghost use Rattle.solver.specs.Parts.{FailsBy, MeetsAllBy, SmallerBy};
 
-    // Whether the row has a statement.
-    fn has(&self, statement: u16) -> bool
-        ensures { IsTrue result ↔ (at self.now.row.now statement ≡ In) }
+    // The statements that a rule needs: of the members of its aggregates only those that are in the row.
+    #[tactic(auto, using(semantics::proofs::FullMarkings::row_has))]
+    fn needed(&self, rule: &Ruleset) -> Set
+        ensures { (r : Rule)
+            → SetsOf (contents_of self.now.rules.now.table.now) r rule.now
+            → (q : ℕ) → contains result q ≡ needs (row_of self.now.row.now) r q }
     {
-        self.row.mark(statement) == Mark::In
+        rule.positive.union(rule.members.common(self.row.present()))
     }
 
-    // Whether a rule needs a member of one of its sets: whether the row has its statement.
-    fn needs(&self, member: Member) -> bool
-        ensures { IsTrue result ↔ (at self.now.row.now member.statement ≡ In) }
+    // The marks under which what is left fails rule i: its head statements are removed, and all that it needs is left; none
+    // where a statement would have to be both.
+    fn failing(&self, i: usize) -> Option<Marking>
+        ensures { FailsUnder (row_of self.now.row.now) (nth_rule self.now.rules.now.table.now i) result }
     {
-        self.has(member.statement)
+        let rule = self.rules.rule(i);
+        self.marks(rule.head, self.needed(&rule))
     }
 
-    // What is said of the members of a set that are in the row, that none be removed, and of the literals before.
-    fn judge_members(&self, removed: &Marking, run: Run, before: Literals) -> Literals
-        ensures { (ms : List Member) (ls : List Literal)
-            → Covers (contents_of self.now.table.now).members ms run
-            → LiteralsAre removed.now ls before
-            → LiteralsAre removed.now (member_literals (row_of self.now.row.now) ms ++ ls) result }
+    // The marks that remove some statements and leave others; none where one is both.
+    fn marks(&self, removed: Set, left: Set) -> Option<Marking>
+        ensures long { IfSome result (λ m. length m ≡ length self.now.row.now) }
+        ensures apart { IfSome result (λ m. Divides (length self.now.row.now) removed left m) }
+        ensures meeting { IfNone result (Meets removed left) }
     {
-        let mut all = before;
-        for k in (run.first..run.end).rev() {
-            let member = self.table.member(k);
-            if self.needs(member) {
-                all = all.and(left(member.statement), removed.mark(member.statement));
-            }
+        Marking::from_sets(self.row.statements(), removed, left)
+    }
+
+    // The nogood of rule i, where it is kept and something follows from it.
+    fn examine_rule(&self, removed: &Marking, i: usize) -> Option<Marking>
+        ensures { IfSome result (Nogood (SmallerBy self.now)) }
+    {
+        if i >= self.rules.rules() || !self.reduct.has(i) {
+            return None;
         }
-        all
-    }
-
-    // What is said of the members of several sets that are in the row, that none be removed.
-    fn judge_sets(&self, removed: &Marking, run: Run) -> Literals
-        ensures { (gs : List Aggregate)
-            → Covers (contents_of self.now.table.now).aggregates gs run
-            → LiteralsAre removed.now (set_literals (row_of self.now.row.now) gs) result }
-    {
-        let mut all = Literals::Met;
-        for j in (run.first..run.end).rev() {
-            all = self.judge_members(removed, self.table.aggregate(j).members, all);
-        }
-        all
-    }
-
-    // Whether what is left fails rule i: what is said of its head statements, that they be removed, and of what it needs,
-    // that nothing of it be removed.
-    fn judge_failing(&self, removed: &Marking, i: usize) -> Literals
-        ensures { LiteralsAre removed.now (failing_literals (row_of self.now.row.now) (nth_rule self.now.table.now i)) result }
-    {
-        let rule = self.table.rule(i);
-        let sets = self.judge_sets(removed, rule.aggregates);
-        let needs = judge_literals(self.table, removed, rule.positive, false, sets);
-        judge_literals(self.table, removed, rule.head, true, needs)
-    }
-
-    // Marks what has to be left or removed lest rule i be failed; none where it is failed.
-    fn apply_rule(&self, removed: Marking, i: usize) -> Option<Marking>
-        ensures { i < length (rules_of self.now.table.now)
-            → keeps self.now.reduct.now.kept i ≡ true
-            → Narrowed (SmallerBy self.now) removed result }
-    {
-        match self.judge_failing(&removed, i) {
-            Literals::Met => None,
-            Literals::OneOpen(last) => {
-                Some(removed.with(last.statement, Mark::from(!last.present)))
-            }
-            Literals::SeveralOpen | Literals::Against => Some(removed),
-        }
-    }
-
-    // Applies each rule that is kept in turn.
-    fn sweep(&self, removed: Marking) -> Option<Marking>
-        ensures { Narrowed (SmallerBy self.now) removed result }
-    {
-        let mut narrowed = removed;
-        for i in 0..self.table.rules() {
-            if !self.reduct.has(i) {
-                continue;
-            }
-            narrowed = self.apply_rule(narrowed, i)?;
-        }
-        Some(narrowed)
-    }
-
-    // Whether a statement is left though the row has it not.
-    fn strays(&self, removed: &Marking, statement: u16) -> bool
-        ensures { IsTrue result ↔ (at removed.now statement ≡ Out) × (at self.now.row.now statement ≢ In) }
-    {
-        removed.mark(statement) == Mark::Out && !self.has(statement)
+        let nogood = self.failing(i)?;
+        is_near(removed, &nogood).then_some(nogood)
     }
 
     // Whether nothing is left that the row has not.
+    #[tactic(auto, using(semantics::proofs::FullMarkings::row_has, crate::proofs::Comparing::left_out, crate::proofs::Comparing::out_left))]
     fn is_part(&self, removed: &Marking) -> bool
         ensures { Full removed.now → (IsTrue result ↔ Part (rest (row_of removed.now)) (row_of self.now.row.now)) }
     {
-        !(0..removed.statements()).any(|statement| self.strays(removed, statement))
+        removed.absent().is_within(self.row.present())
     }
 
     // Whether a statement of the row is removed.
-    fn removes(&self, removed: &Marking, statement: u16) -> bool
-        ensures { IsTrue result ↔ (at removed.now statement ≡ In) × (at self.now.row.now statement ≡ In) }
-    {
-        removed.mark(statement) == Mark::In && self.has(statement)
-    }
-
-    // Whether any statement of the row is removed.
+    #[tactic(auto, using(semantics::proofs::FullMarkings::row_has))]
     fn removes_some(&self, removed: &Marking) -> bool
         ensures { IsTrue result ↔ RemovesSome (row_of self.now.row.now) (row_of removed.now) }
     {
-        (0..removed.statements()).any(|statement| self.removes(removed, statement))
+        removed.present().meets(self.row.present())
     }
 
     // Whether what is left is a proper part of the row.
@@ -164,47 +107,83 @@ impl Parts<'_> {
         self.is_part(removed) && self.removes_some(removed)
     }
 
-    // Whether what is left fails rule i, which is kept.
+    // Whether what is left of the row fails rule i, which is kept.
     fn fails(&self, removed: &Marking, i: usize) -> bool
-        ensures { Whole (program_of self.now.table.now).statements removed.now
+        ensures { Whole (program_of self.now.rules.now.table.now).statements removed.now
+            → length removed.now ≡ length self.now.row.now
             → (IsTrue result ↔ FailsBy self.now removed.now i) }
     {
-        self.reduct.has(i) && self.judge_failing(removed, i) == Literals::Met
+        if !self.reduct.has(i) {
+            return false;
+        }
+        match self.failing(i) {
+            Some(nogood) => nogood.is_below(removed),
+            None => false,
+        }
     }
 
-    // Whether what is left fails no rule that is kept.
+    // Whether what is left of the row fails no rule that is kept.
     fn fails_none(&self, removed: &Marking) -> bool
-        ensures { Whole (program_of self.now.table.now).statements removed.now
+        ensures { Whole (program_of self.now.rules.now.table.now).statements removed.now
+            → length removed.now ≡ length self.now.row.now
             → (IsTrue result ↔ MeetsAllBy self.now removed.now) }
     {
-        !(0..self.table.rules()).any(|i| self.fails(removed, i))
+        !(0..self.rules.rules()).any(|i| self.fails(removed, i))
+    }
+
+    // Whether what is left is a proper part of the row that fails no rule that is kept.
+    fn is_smaller(&self, removed: &Marking) -> bool
+        ensures { Whole (program_of self.now.rules.now.table.now).statements removed.now
+            → (IsTrue result ↔ SmallerBy self.now (row_of removed.now)) }
+    {
+        self.is_proper_part(removed) && self.fails_none(removed)
     }
 }
 
 impl Problem for Parts<'_> {
     ghost use Rattle.solver.specs.Parts.{SmallerBy};
 
-    ghost size = { λ p. (program_of p.table.now).statements };
+    type Work = Work;
+
+    ghost size = { λ p. (program_of p.rules.now.table.now).statements };
 
     ghost fits = { SmallerBy };
 
     fn statements(&self) -> u16 {
-        self.table.statements()
+        self.rules.statements()
     }
 
-    // Sweeps until nothing more is marked.
-    fn narrow(&self, removed: Marking, _latest: Option<u16>) -> Option<Marking> {
-        let mut narrowed = removed;
-        loop {
-            let open = narrowed.open_count();
-            narrowed = self.sweep(narrowed)?;
-            if narrowed.open_count() == open {
-                return Some(narrowed);
+    fn start(&self) -> Work {
+        Work::all(0, self.rules.rules())
+    }
+
+    fn go_back(&self, work: &mut Work, reached: usize) {
+        work.go_back(reached);
+    }
+
+    // Rule by rule, those first that mention what was marked last.
+    fn nogood(&self, work: &mut Work, removed: &Marking, trail: &[u16]) -> Option<Marking> {
+        for _ in 0..MOST_LOOKS {
+            if let Some(i) = work.next_rule() {
+                let found = self.examine_rule(removed, i);
+                if found.is_some() {
+                    return found;
+                }
+                work.remove_rule(i);
+            } else if let Some(statement) = trail.get(work.looked()).copied() {
+                work.add_rules(self.mentions, statement);
+            } else {
+                return None;
             }
         }
+        None
     }
 
-    fn accepts(&self, removed: &Marking) -> bool {
-        self.is_proper_part(removed) && self.fails_none(removed)
+    fn test(&self, removed: &Marking) -> Judgement {
+        if self.is_smaller(removed) {
+            Judgement::Fits
+        } else {
+            Judgement::Fails(*removed)
+        }
     }
 }

@@ -1,18 +1,18 @@
-ghost use Rattle.judging.specs.Rulebooks.{program_in, rule_in};
+ghost use Rattle.rulesets.specs.Judging.{program_in, rule_in};
 ghost use Rattle.semantics.specs.AnswerSets.{AnswerSet, Supports};
 ghost use Rattle.semantics.specs.FullMarkings.{row_of};
 ghost use Rattle.semantics.specs.Markings.{at, marked};
-ghost use Rattle.semantics.specs.declared.Mark.TheVariants.{In, Out};
+ghost use Rattle.semantics.specs.declared.Mark.TheVariants.{In};
 ghost use Rattle.solver.specs.Reducts.{Whole};
 ghost use Rattle.solver.specs.Support.{OnlyHead, StandsOn, by_first, row_read, support_of, supports};
 ghost use Rattle.solver.specs.declared.support.Support.TheVariants.{ByNone};
-ghost use Rattle.std.specs.Prelude.{◌≡◌, ◌≢◌, ◌==◌, ◌↔◌, IsTrue, map, position, slice_index, slice_set};
+ghost use Rattle.std.specs.Prelude.{◌≡◌, ◌≢◌, ◌==◌, ◌↔◌, IsTrue, map, position, slice_index};
 ghost use Rattle.table.specs.Tables.{nth_rule, program_of};
 
-use super::reducing::{has_head, is_body_true};
+use super::reducing::{heads_in, is_body_true};
 use family::Family;
-use judging::Rulebook;
 use marking::Marking;
+use rulesets::{Judge, Rulesets};
 use semantics::Mark;
 use table::table::Table;
 
@@ -44,36 +44,31 @@ pub fn read_row(table: &Table, bytes: &[u8]) -> Marking
     row
 }
 
-// Whether, of the head statements of rule i, a row has this one only, which is in it: the row has one, and without this
-// one it has none.
-fn is_only_head(table: &Table, row: &Marking, statement: u16, i: usize) -> bool
-    ensures { Whole (program_of table.now).statements row.now
-        → at row.now statement ≡ In
-        → (IsTrue result ↔ OnlyHead (row_of row.now) statement (nth_rule table.now i)) }
+// Whether, of the head statements of rule i, a row has this one only, which is in it.
+fn is_only_head(rules: &Rulesets, row: &Marking, statement: u16, i: usize) -> bool
+    ensures { at row.now statement ≡ In
+        → (IsTrue result ↔ OnlyHead (row_of row.now) statement (nth_rule rules.now.table.now i)) }
 {
-    let others = row.with(statement, Mark::Out);
-    let one = has_head(table, row, i);
-    let more = has_head(table, &others, i);
-    one && !more
+    heads_in(rules, row, i).only() == Some(statement)
 }
 
 // Whether rule i supports a statement that is in a row.
-fn does_support<F: Family>(book: &Rulebook<F>, row: &Marking, statement: u16, i: usize) -> bool
-    ensures { Whole (program_in book.now).statements row.now
+fn does_support<F: Family>(judge: &Judge<F>, row: &Marking, statement: u16, i: usize) -> bool
+    ensures { Whole (program_in judge.now).statements row.now
         → at row.now statement ≡ In
-        → (IsTrue result ↔ Supports (F.value book.now.family.now) (row_of row.now) statement (rule_in book.now i)) }
+        → (IsTrue result ↔ Supports (F.value judge.now.family.now) (row_of row.now) statement (rule_in judge.now i)) }
 {
-    is_only_head(book.table, row, statement, i) && is_body_true(book, row, i)
+    is_only_head(judge.rules, row, statement, i) && is_body_true(judge, row, i)
 }
 
 // The first rule that supports a statement that is in a row.
-fn first_support<F: Family>(book: &Rulebook<F>, row: &Marking, statement: u16) -> Option<usize>
-    ensures { Whole (program_in book.now).statements row.now
+fn first_support<F: Family>(judge: &Judge<F>, row: &Marking, statement: u16) -> Option<usize>
+    ensures { Whole (program_in judge.now).statements row.now
         → at row.now statement ≡ In
         → result
-        ≡ position (supports (F.value book.now.family.now) (row_of row.now) statement) (program_in book.now).rules }
+        ≡ position (supports (F.value judge.now.family.now) (row_of row.now) statement) (program_in judge.now).rules }
 {
-    (0..book.table.rules()).find(|i| does_support(book, row, statement, *i))
+    (0..judge.rules.rules()).find(|i| does_support(judge, row, statement, *i))
 }
 
 // What is said of a statement that is in, by the first rule that supports it.
@@ -100,5 +95,10 @@ pub fn find_support<F: Family>(table: &Table, family: &F, bytes: &[u8], statemen
     if row.mark(statement) != Mark::In {
         return Support::NotIn;
     }
-    by_first(first_support(&Rulebook { table, family }, &row, statement))
+    let rules = Rulesets::new(table);
+    let judge = Judge {
+        rules: &rules,
+        family,
+    };
+    by_first(first_support(&judge, &row, statement))
 }

@@ -1,7 +1,7 @@
 use Rattle.inspection.proofs.earliest.Goals as goal
 use Rattle.semantics.specs.Families.{house}
 use Rattle.semantics.specs.Theorems.{Noted}
-use Rattle.solver.proofs.Seeking.{sought_for}
+use Rattle.solver.proofs.Finding.{sought_for}
 use Rattle.solver.proofs.Starting.{noted_start}
 use Rattle.std.proofs.Common.{[]}
 use Rattle.table.specs.Tables.{program_of}

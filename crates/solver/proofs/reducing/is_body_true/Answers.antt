@@ -1,8 +1,7 @@
-use Rattle.solver.proofs.Bodies.{body_decided, nth_known}
+use Rattle.solver.proofs.Bodies.{certain_is_true, true_is_certain}
 use Rattle.solver.proofs.reducing.is_body_true.Goals as goal
 
 pub returns : goal.returns
 returns g c = λ whole.
-    let value = g.F.Family.value c.args.book.now.family.now in
-    let table = c.args.book.now.table.now.bytes.now in
-    body_decided _ _ whole value _ (nth_known table c.args.i) c.judge_body.result c.is_certain.result c.is_certain.ensures c.judge_body.ensures
+    let table = c.args.judge.now.rules.now.table.now.bytes.now in
+    ((λ e. certain_is_true table c.args.i _ _ whole (c.is_body_certain.ensures.0 e)), λ t. c.is_body_certain.ensures.1 (true_is_certain table c.args.i _ _ whole t))

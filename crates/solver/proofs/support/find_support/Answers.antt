@@ -13,7 +13,7 @@ returns-clause-value g c =
     let present : at c.read_row-row.result c.args.statement ≡ In = search (rules, tests) in
     c.by_first.ensures
     ∙ said_of (g.F.Family.value c.args.family.now) p (row_read p.statements c.args.bytes.now) c.read_row-row.result c.args.statement c.first_support.result c.read_row-row.ensures present
-    (c.first_support.ensures (subst (Whole p.statements) (sym c.read_row-row.ensures) (marked_whole p.statements c.args.bytes.now)) present)
+    (rw c.new-rules.ensures at c.first_support.ensures (subst (Whole p.statements) (sym c.read_row-row.ensures) (marked_whole p.statements c.args.bytes.now)) present)
 
 -- what is said so is so, and of an answer set it is never said that no rule supports a statement
 pub returns-clause-stands : goal.returns-clause-stands

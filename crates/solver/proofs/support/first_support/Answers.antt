@@ -1,5 +1,5 @@
 use Rattle.std.proofs.Common.{◌≡◌, ◌↔◌, Bool, IsTrue, true, false, rules, ℕ}
-use Rattle.judging.specs.Rulebooks.{rule_in, program_in}
+use Rattle.rulesets.specs.Judging.{rule_in, program_in}
 use Rattle.semantics.specs.AnswerSets.{Supports}
 use Rattle.semantics.specs.FullMarkings.{row_of}
 use Rattle.semantics.specs.Markings.{at}
@@ -14,7 +14,7 @@ use Rattle.table.specs.View.{no_rule}
 
 pub returns : goal.returns
 returns g c = λ whole present.
-    let book = c.args.book.now in
+    let book = c.args.judge.now in
     let value = g.F.Family.value book.family.now in
     let s = row_of c.args.row.now in
     let q = c.args.statement in

@@ -1,4 +1,4 @@
-use Rattle.solver.proofs.Seeking.{excluded_none, some_sought}
+use Rattle.solver.proofs.Finding.{excluded_none, some_sought}
 use Rattle.solver.proofs.accounts.Accounts.some_account.Goals as goal
 use Rattle.solver.specs.Accounts.{Excluded}
 use Rattle.std.proofs.lemmas.Bool.{both_ways, false≢true}

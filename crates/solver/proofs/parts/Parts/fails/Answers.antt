@@ -1,15 +1,18 @@
-use Rattle.judging.specs.declared.literals.Literals.TheVariants.{Met}
 use Rattle.semantics.specs.FullMarkings.{row_of}
-use Rattle.solver.proofs.Bodies.{nth_known}
-use Rattle.solver.proofs.Pruning.{fails_decided}
+use Rattle.solver.proofs.Pruning.{fails_told}
+use Rattle.solver.proofs.Removing.{own_meets}
 use Rattle.solver.proofs.parts.Parts.fails.Goals as goal
-use Rattle.std.proofs.Common.{◌≡◌, ◌∙◌, ⊎_elim, false, rules, sym, true}
-use Rattle.std.proofs.lemmas.Bool.{cases_Bool}
+use Rattle.solver.specs.Smaller.{rest}
+use Rattle.std.proofs.Common.{◌∙◌, sym}
+use Rattle.std.proofs.lemmas.Bool.{false≢true}
+use Rattle.table.specs.Tables.{nth_rule}
 
-pub returns-then-has : goal.returns-then-has
-returns-then-has c = λ whole.
-    let met : c.judge_failing.result ≡ Met → c.eq.result ≡ true = search rules in
-    let other : (c.judge_failing.result ≡ Met → ⊥) → c.eq.result ≡ false = search rules in
-    let table = c.args.self.now.table.now.bytes.now in
-    let d = fails_decided c.args.removed.now _ whole (row_of c.args.self.now.row.now) _ (nth_known table c.args.i) c.judge_failing.result c.eq.result met other c.judge_failing.ensures in
-    ((λ e. (sym c.has.ensures ∙ c.if-has.true, d.0 e)), λ f. ⊎_elim (λ e. e) (λ e. absurd (f.1 (d.1 e))) (cases_Bool c.eq.result))
+pub returns-in-Some : goal.returns-in-Some
+returns-in-Some c = λ whole long.
+    fails_told c.args.self.now c.args.i c.args.removed.now whole long (sym c.has.ensures ∙ c.if-not-has.false) c.in-Some.nogood c.in-Some.ensures c.is_below.result c.is_below.ensures
+
+pub returns-in-None : goal.returns-in-None
+returns-in-None c = λ whole long.
+    let p = c.args.self.now in
+    let (q, i, n) = c.in-None.ensures in
+    ((λ e. absurd (false≢true e)), λ f. absurd (f.1 (own_meets (row_of p.row.now) (rest (row_of c.args.removed.now)) (nth_rule p.rules.now.table.now c.args.i) q i n)))

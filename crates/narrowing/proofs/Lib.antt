@@ -1,0 +1,2 @@
+pub mod Unfounded
+pub mod Blocking

@@ -1,0 +1,3 @@
+pub mod Unfounded
+pub mod Excluding
+pub mod Blocking
