@@ -344,8 +344,7 @@ SMALL = {
 
 
 # The instances that are run: a name, what makes them, and each one's arguments, which are part of its name. Where there
-# is a seed, it is the last. Of the kinds that get hard within the limits of the format, the largest is not answered in
-# a minute.
+# is a seed, it is the last.
 FAMILIES = [
     ("queens", queens,
      [(3,), (4,), (6,), (8,), (9,), (10,), (8, 12, 1), (8, 20, 3), (8, 28, 7), (10, 25, 2), (10, 40, 5)]),
