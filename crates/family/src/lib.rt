@@ -13,4 +13,4 @@ pub use kind::{Kind, LackingKind};
 pub use reading::{Reading, Span, Verdict};
 pub use summary::Summary;
 pub use tally::Tally;
-pub use weights::takes;
+pub use weights::{takes, widened};

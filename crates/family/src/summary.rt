@@ -1,9 +1,10 @@
 ghost use Rattle.std.specs.Prelude.{◌≡◌, ◌+◌, ◌<◌, ◌≤◌, List, [], ◌∷◌, ℤ};
 ghost use Rattle.family.specs.Spans.{SmallIfAny};
-ghost use Rattle.family.specs.Sums.{Bounded};
+ghost use Rattle.family.specs.Sums.{Bounded, above_zero, below_zero};
 ghost use Rattle.semantics.specs.Families.{Weight};
 
 use super::reading::Span;
+use super::weights::widened;
 
 // What is kept of a bag of weights: a summary, which stands for every bag that has these numbers. Each family reads from it
 // what its kinds need; one that needs no sums pays two additions a weight for them.
@@ -19,6 +20,20 @@ pub struct Summary {
     pub ghost few: { count ≤ 128 },
     pub ghost bounded: { Bounded below count × Bounded above count },
     pub ghost small: { SmallIfAny extremes },
+}
+
+// The weight if it is below zero, and 0 if not.
+fn below_zero(weight: i64) -> i64
+    ensures { result ≡ below_zero weight }
+{
+    weight.min(0)
+}
+
+// The weight if it is above zero, and 0 if not.
+fn above_zero(weight: i64) -> i64
+    ensures { result ≡ above_zero weight }
+{
+    weight.max(0)
 }
 
 impl Summary {
@@ -44,8 +59,8 @@ impl Summary {
         ensures kept { (v : List ℤ) → Keeps self.old v → Keeps self.new (weight ∷ v) }
     {
         self.count += 1;
-        self.below += weight.min(0);
-        self.above += weight.max(0);
-        self.extremes = Some(Span::alone(weight).joined(self.extremes));
+        self.below += below_zero(weight);
+        self.above += above_zero(weight);
+        self.extremes = widened(self.extremes, weight);
     }
 }

@@ -1,4 +1,4 @@
-ghost use Rattle.std.specs.Prelude.{◌≡◌, ◌+◌, ◌≤◌, IfOk, ℕ, List, [], ◌∷◌, ℤ};
+ghost use Rattle.std.specs.Prelude.{◌≡◌, ◌+◌, ◌≤◌, ⊤, ℕ, List, [], ◌∷◌, ℤ};
 ghost use Rattle.family.specs.Bags.{Takes};
 
 use super::kind::LackingKind;
@@ -17,9 +17,11 @@ pub struct Tally<K> {
 
 // Written out: Clone is not derived for a struct that is generic and has a ghost field.
 impl<K: Copy> Clone for Tally<K> {
-    fn clone(&self) -> Result<Tally<K>, AllocError>
-        ensures { IfOk result (λ t. t ≡ self.now) }
-    {
+    ghost is_clone = { λ tally clone. clone ≡ tally };
+
+    ghost is_infallible = { λ _. ⊤ };
+
+    fn clone(&self) -> Result<Tally<K>, AllocError> {
         Ok(*self)
     }
 }

@@ -1,5 +1,5 @@
-ghost use Rattle.std.specs.Prelude.{◌≡◌, ◌<◌, ◌↔◌, IsTrue};
-ghost use Rattle.family.specs.Spans.{alone, joined};
+ghost use Rattle.std.specs.Prelude.{◌≡◌, ◌<◌, ◌↔◌, IsTrue, List, ◌∷◌, ℤ};
+ghost use Rattle.family.specs.Spans.{SmallIfAny, Spans, alone, joined};
 ghost use Rattle.semantics.specs.Families.{Weight};
 
 use super::reading::Span;
@@ -34,4 +34,12 @@ impl Span {
             },
         }
     }
+}
+
+// The extremes of a bag with one weight more.
+pub fn widened(extremes: Option<Span>, weight: i64) -> Option<Span>
+    ensures spans { (v : List ℤ) → Spans extremes v → Spans result (weight ∷ v) }
+    ensures small { SmallIfAny extremes → Weight weight → SmallIfAny result }
+{
+    Some(Span::alone(weight).joined(extremes))
 }
