@@ -1,9 +1,10 @@
 -- What stands at each place of a table, opened or not, and past the last place.
-use Rattle.std.proofs.Common.{◌≡◌, ℕ, ◌+◌, ◌-◌, ◌*◌, ◌<◌, ◌≤◌, true, false, List, [], ◌∷◌, length, get_or, pos, is_ok, sym, refl, ap, ◌∙◌, inl, inr, one-mul, arith, Option, None, Some, MatchOption}
+use Rattle.std.proofs.Common.{◌≡◌, ℕ, ◌+◌, ◌-◌, ◌*◌, ◌<◌, ◌≤◌, true, false, List, [], ◌∷◌, length, get_or, pos, is_ok, sym, refl, ap, ◌∙◌, inl, inr, one-mul, arith, Option, None, Some, MatchOption, Ok}
 use Rattle.format.specs.Aggregates.{aggregate_at, first_member, member_count}
 use Rattle.layout.specs.Bytes.{byte_at}
 use Rattle.format.specs.Check.{accepted, counts_of, faults, none}
 use Rattle.format.specs.Faults.{verdict}
+use Rattle.format.specs.declared.check.Counts.{Counts}
 use Rattle.layout.specs.Areas.{count, offset, size}
 use Rattle.format.specs.Rules.{aggregate_count, first_aggregate, first_literal, head_count, negative_count, positive_count, rule_at}
 use Rattle.format.specs.Statements.{name_at, statement_at}
@@ -23,7 +24,7 @@ use Rattle.table.proofs.Runs.{run_with}
 use Rattle.table.proofs.Slices.{slice_at}
 use Rattle.table.specs.Contents.{aggregate_held, aggregates_held, contents, held, literals_held, member_held, members_held, names_held, nothing, rule_held, rules_held, slice}
 use Rattle.table.specs.Limits.{MemberLimits, how_many}
-use Rattle.table.specs.View.{Covers, ShowsRecord, ShowsAggregate, ShowsRule, aggregate_read, count_held, kind_place, member_read, name_read, no_aggregate, no_member, no_rule, rule_read, run}
+use Rattle.table.specs.View.{Covers, ShowsRecord, ShowsAggregate, ShowsRule, aggregate_read, count_held, count_in, kind_place, member_read, name_read, no_aggregate, no_member, no_rule, rule_read, run}
 use Rattle.table.specs.declared.table.Run.{Run}
 
 -- The check says Ok exactly of accepted bytes.
@@ -62,12 +63,33 @@ many_opened b a e = rw (contents_held b e) (held_many b (clean b e) a)
 pub many_shut : (b : List ℕ) (a : Area) → accepted b ≡ false → how_many (contents b) a ≡ 0
 many_shut b a e = rw (contents_shut b e) (none_many a)
 
-many : (b : List ℕ) (a : Area) → how_many (contents b) a ≡ count_held b a
+pub many : (b : List ℕ) (a : Area) → how_many (contents b) a ≡ count_held b a
 many b a =
     elim (cases_Bool (accepted b)) [
       | inl e ↦ many_opened b a e ∙ sym (cond-true (accepted b) (count b a) 0 e)
       | inr e ↦ many_shut b a e ∙ sym (cond-false (accepted b) (count b a) 0 e)
     ]
+
+-- How many records of an area are held, by the counts that the check gives, or by its fault.
+verdict_gives : {X : Type 0} (fs : List Fault) (x y : X) → verdict fs x ≡ Ok y → x ≡ y
+verdict_gives [] x y e = cc
+verdict_gives (f ∷ fs) x y e = absurd (cc)
+
+counts_in : (b : List ℕ) (area : Area) → count_in (counts_of b) area ≡ count b area
+counts_in b Statements = refl
+counts_in b Rules = refl
+counts_in b Literals = refl
+counts_in b Aggregates = refl
+counts_in b Members = refl
+counts_in b Names = refl
+
+pub held_by_counts : (b : List ℕ) (area : Area) (counts : Counts) → verdict (faults b) (counts_of b) ≡ Ok counts → count_in counts area ≡ count_held b area
+held_by_counts b area counts e =
+    rw (← verdict_gives (faults b) (counts_of b) counts e)
+    (counts_in b area ∙ sym (cond-true (accepted b) (count b area) 0 (sym (ok_accepted b) ∙ ap is_ok e)))
+
+pub held_by_fault : (b : List ℕ) (area : Area) → is_ok (verdict (faults b) (counts_of b)) ≡ false → count_held b area ≡ 0
+held_by_fault b area e = cond-false (accepted b) (count b area) 0 (sym (ok_accepted b) ∙ e)
 
 -- the kind of an aggregate that there is stands where its record begins
 pub kind_placed : (b : List ℕ) (j : ℕ) → j < length (contents b).aggregates → kind_place b j ≡ aggregate_at b j

@@ -3,9 +3,10 @@ use Rattle.std.specs.Prelude.{◌≡◌, ℕ, ◌+◌, ◌-◌, ◌*◌, ◌<◌
 use Rattle.layout.specs.Bytes.{byte_at, whole_at, word_at}
 use Rattle.format.specs.Aggregates.{aggregate_at}
 use Rattle.format.specs.Check.{accepted}
+use Rattle.format.specs.declared.check.Counts.{Counts}
 use Rattle.layout.specs.Areas.{count, offset, size}
 use Rattle.layout.specs.declared.area.Area.{Area}
-use Rattle.layout.specs.declared.area.Area.TheVariants.{Aggregates, Names}
+use Rattle.layout.specs.declared.area.Area.TheVariants.{Statements, Rules, Literals, Aggregates, Members, Names}
 use Rattle.semantics.specs.Programs.{Aggregate, Rule}
 use Rattle.semantics.specs.declared.Member.{Member}
 use Rattle.semantics.specs.declared.Relation.TheVariants.{Less}
@@ -70,6 +71,15 @@ aggregate_read b at = record {
 
 abbrev pub member_read : List ℕ → ℕ → Member
 member_read b at = record { statement = byte_at b at; weight = whole_at b (at + 4) }
+
+-- how many records of an area the counts give
+abbrev pub count_in : Counts → Area → ℕ
+count_in c Statements = c.statements
+count_in c Rules = c.rules
+count_in c Literals = c.literals
+count_in c Aggregates = c.aggregates
+count_in c Members = c.members
+count_in c Names = c.names
 
 -- how many records of an area a table has: none where it is not opened
 abbrev pub count_held : List ℕ → Area → ℕ

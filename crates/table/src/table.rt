@@ -3,7 +3,7 @@ ghost use Rattle.format.specs.Faults.{verdict};
 ghost use Rattle.layout.specs.Bytes.{byte_at};
 ghost use Rattle.std.specs.Prelude.{◌≡◌, ◌<◌, ◌^◌, ℕ, List, true, [], is_ok, length, slice_index, slice_index_or};
 ghost use Rattle.table.specs.Limits.{MemberLimits, OnlyBytes, WithinLimits, how_many};
-ghost use Rattle.table.specs.View.{ShowsAggregate, ShowsRecord, ShowsRule, aggregate_read, count_held, kind_place, member_read, name_read, no_member, rule_read, run};
+ghost use Rattle.table.specs.View.{ShowsAggregate, ShowsRecord, ShowsRule, aggregate_read, count_held, count_in, kind_place, member_read, name_read, no_member, rule_read, run};
 
 use format::check::{Counts, check};
 use layout::area::Area;
@@ -11,7 +11,7 @@ use layout::bytes::part;
 use layout::records::Record;
 use refusal::Fault;
 use semantics::{Member, Relation};
-use std::str::from_utf8;
+use std::str::from_utf8_unchecked;
 
 // The places from first to before end of an area. Stays a struct: the library's ranges are not `Copy`, and views are.
 #[derive(Clone, Copy)]
@@ -125,6 +125,20 @@ fn longest() -> u64
     49_692
 }
 
+// How many records of an area the counts give.
+fn count_of(counts: Counts, area: Area) -> u16
+    ensures { result ≡ count_in counts area }
+{
+    match area {
+        Area::Statements => counts.statements,
+        Area::Rules => counts.rules,
+        Area::Literals => counts.literals,
+        Area::Aggregates => counts.aggregates,
+        Area::Members => counts.members,
+        Area::Names => counts.names,
+    }
+}
+
 fn read_literal(literal: Record) -> u16
     ensures { result ≡ byte_at literal.entry.bytes.now literal.entry.at }
 {
@@ -192,15 +206,14 @@ impl<'a> Table<'a> {
     }
 
     // How many records of an area there are.
-    #[tactic(auto, using(crate::proofs::Places::many_opened, crate::proofs::Places::many_shut))]
+    #[tactic(auto, using(crate::proofs::Places::held_by_counts, crate::proofs::Places::held_by_fault, crate::proofs::Places::many))]
     fn held(&self, area: Area) -> u16
         ensures known { result ≡ how_many (contents_of self.now) area }
         ensures counted { result ≡ count_held self.now.bytes.now area }
     {
-        if self.is_opened() {
-            area.count(self.bytes)
-        } else {
-            0
+        match self.checked {
+            Ok(counts) => count_of(counts, area),
+            Err(_) => 0,
         }
     }
 
@@ -290,6 +303,7 @@ impl<'a> Table<'a> {
     pub fn name(&self, statement: u16) -> &'a str
         ensures { result.now ≡ slice_index_or (contents_of self.now).names statement [] }
     {
-        from_utf8(self.name_bytes(statement)).unwrap_or("")
+        // Not checked again: the check accepted visible ASCII signs only, and the proof says so.
+        unsafe { from_utf8_unchecked(self.name_bytes(statement)) }
     }
 }
